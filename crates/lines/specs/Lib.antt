@@ -1,0 +1,5 @@
+pub mod Ops
+pub mod Trees
+pub mod Lines
+pub mod Shapes
+pub mod Marks
