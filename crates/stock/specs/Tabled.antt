@@ -1,4 +1,4 @@
--- Laws of what the stocks mean. Assumes nothing.
+-- Laws of what the stocks mean.
 use mathlib.Core.Path.{_≡_, refl, sym, ap, subst, _∙_}
 use mathlib.Core.List.{List, [], _∷_, _++_, map}
 use mathlib.Core.Logic.{inl, inr, ⊎-elim}
@@ -12,9 +12,9 @@ use Rattle.std.specs.Iters.{counting}
 use Rattle.std.specs.shelf.Lists.{All}
 use Rattle.std.proofs.shelf.Tests.{cases-lt, cases-eq, and-from, lt-ltb}
 use Rattle.std.proofs.shelf.Counted.{length-map-counting, getD-map-counting}
-use Rattle.std.proofs.shelf.Elements.{all-from-getD, all-append, all-take}
+use Rattle.std.proofs.shelf.Elements.{all-from-getD, all-getD, all-append, all-take}
 use Rattle.std.proofs.shelf.Lists.{getD-past, getD-take, getD-append-left, getD-append-right}
-use Rattle.stock.specs.Tables.{Table, Lawful, Lawful-table, Lawful-row, no-table, ruled, paired, cell-of}
+use Rattle.stock.specs.Tables.{Table, Lawful, Lawful-table, Lawful-row, no-table, width-of, rows-at, rows-of, widths, ruled, paired, cell-of}
 use Rattle.cells.specs.declared.cell.Cell.{Cell}
 use Rattle.cells.specs.declared.cell.Cell.the-variants.{Null, Number}
 
@@ -72,3 +72,24 @@ paired-lawful a b x y = record {
   few = rw (length-paired a b) (omega arith);
   each = all-take Lawful-table 16 (a ++ b) (all-append Lawful-table a b (x .each) (y .each));
 }
+
+-- what a table of a lawful list keeps, and what is found outside the list
+pub lawful-at : (ts : List Table) (t : ℕ) → Lawful ts → t < length ts → Lawful-table (getD ts t no-table)
+lawful-at ts t g l = all-getD Lawful-table ts t no-table l (g .each)
+
+pub few-rows : (ts : List Table) (t : ℕ) → Lawful ts → length (rows-at ts t) ≤ 65535
+few-rows ts t g = ⊎-elim (λ l. lawful-at ts t g l .few) (λ k. rw (getD-past ts t no-table k) (omega arith)) (cases-lt t (length ts))
+
+pub small-width : (ts : List Table) (t : ℕ) → Lawful ts → width-of ts t ≤ 8
+small-width ts t g = ⊎-elim (λ l. lawful-at ts t g l .most) (λ k. rw (getD-past ts t no-table k) (omega arith)) (cases-lt t (length ts))
+
+pub lawful-rows : (ts : List Table) (t : ℕ) → Lawful ts → All (Lawful-row (width-of ts t)) (rows-at ts t)
+lawful-rows ts t g = ⊎-elim (λ l. lawful-at ts t g l .each) (λ k. rw (getD-past ts t no-table k) tt) (cases-lt t (length ts))
+
+pub row-long : (ts : List Table) (t p : ℕ) → Lawful ts → p < rows-of ts t → length (getD (rows-at ts t) p []) ≡ width-of ts t
+row-long ts t p g l = all-getD (Lawful-row (width-of ts t)) (rows-at ts t) p [] l (lawful-rows ts t g) .long
+
+pub getD-widths : (ts : List Table) (t : ℕ) → getD (widths ts) t 0 ≡ width-of ts t
+getD-widths [] t = refl
+getD-widths (x ∷ ts) zero = refl
+getD-widths (x ∷ ts) (suc t) = getD-widths ts t
