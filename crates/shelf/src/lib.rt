@@ -1,0 +1,4 @@
+// Lent cells as a stock.
+pub mod check;
+pub mod questions;
+pub mod shelf;
