@@ -82,7 +82,7 @@ pub record Unknown-at-null (a b : Cell) (r : Truth) : Type 0 where
   pub left : a ≡ Null → r ≡ Unknown
   pub right : b ≡ Null → r ≡ Unknown
 
--- yes exactly of NULL and of the numbers from -2,147,483,648 to 2,147,483,647
+-- yes exactly of NULL and of the numbers that 32 bits hold, with a sign
 abbrev pub In-range : Cell → Bool → Type 0
 In-range Null r = r ≡ true
 In-range (Number z) r = (r ≡ true → (negsuc 2147483647 ≤ℤ z) × (z ≤ℤ pos 2147483647)) × ((negsuc 2147483647 ≤ℤ z) → (z ≤ℤ pos 2147483647) → r ≡ true)

@@ -26,7 +26,7 @@ impl Cell {
         }
     }
 
-    // Two cells are the same when both are NULL or both hold one number.
+    // Sameness, unlike comparison, takes NULL for the same as NULL.
     pub fn same(self, other: Cell) -> bool
         ensures value { λ r. ⌜ r ≡ same-cell self other ⌝ }
         ensures decides { λ r. ⌜ Decides self other r ⌝ }

@@ -27,7 +27,7 @@ impl Truth {
         match (self, other) {
             (Truth::True, _) | (_, Truth::True) => Truth::True,
             (Truth::Unknown, _) | (_, Truth::Unknown) => Truth::Unknown,
-            (Truth::False, Truth::False) => Truth::False,
+            _ => Truth::False,
         }
     }
 
@@ -39,7 +39,7 @@ impl Truth {
         match (self, other) {
             (Truth::False, _) | (_, Truth::False) => Truth::False,
             (Truth::Unknown, _) | (_, Truth::Unknown) => Truth::Unknown,
-            (Truth::True, Truth::True) => Truth::True,
+            _ => Truth::True,
         }
     }
 
@@ -65,7 +65,7 @@ impl Truth {
         }
     }
 
-    // As a cell true is 1, false is 0 and unknown is NULL.
+    // The cell that ExtendTruth and the quantified Applies lay: 1, 0 or NULL.
     pub fn as_cell(self) -> Cell
         ensures { λ r. ⌜ r ≡ as-cell self ⌝ }
     {

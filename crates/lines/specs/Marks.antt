@@ -32,6 +32,7 @@ summed Greatest b = false
 abbrev pub Marks : Type 0
 Marks = List Bool
 
+-- whether a side's cells come from a sum
 abbrev pub mark-of : Side → Marks → Bool
 mark-of (Column k) m = getD m k false
 mark-of (Constant z) m = false
@@ -71,6 +72,7 @@ abbrev pub Side-in : ℕ → Side → Type 0
 Side-in n (Column k) = k < n
 Side-in n (Constant z) = stored (Number z) ≡ true
 
+-- all columns of a condition below n, all its constants stored
 abbrev pub Cond-in : ℕ → Cond → Type 0
 Cond-in n (compare s a b) = Side-in n a × Side-in n b
 Cond-in n (is-null k) = k < n

@@ -1,5 +1,4 @@
 -- The operands of a line, by their kinds.
-use mathlib.Core.Path.{_≡_}
 use mathlib.Core.Bool.{Bool, true, false}
 use mathlib.Core.List.{List, []}
 use Prim.Native.Nat.{ℕ, _<_}
@@ -49,6 +48,7 @@ Below i (Inner a b) = (a < i) × (b < i)
 Below i (Part p) = p < i
 Below i (Parts p q) = (p < i) × (q < i)
 
+-- a line at place i whose operands are lower
 abbrev pub Lower : ℕ → Line → Type 0
 Lower i l = Below i (shape-of l)
 
@@ -82,6 +82,7 @@ is-condition (UnknownL a) = true
 is-condition (And a b) = true
 is-condition (Or a b) = true
 
+-- the line at a place, and Unit past the end
 abbrev pub line-at : List Line → ℕ → Line
 line-at ls i = getD ls i UnitL
 
@@ -89,9 +90,10 @@ line-at ls i = getD ls i UnitL
 abbrev pub Ordered : List Line → Type 0
 Ordered ls = (j : ℕ) → j < length ls → Lower j (line-at ls j)
 
--- the tree of line i, and its width over tables of the widths ws
+-- the tree of line i
 abbrev pub tree-at : List Line → ℕ → Tree
 tree-at ls i = as-rows (at (grow [] ls) i)
 
+-- the width of line i's tree over tables of the widths ws
 abbrev pub width-at : List Line → List ℕ → ℕ → ℕ
 width-at ls ws i = width ws (tree-at ls i)

@@ -59,6 +59,6 @@ widths ts = map (λ t. t .width) ts
 abbrev pub ruled : ℕ → List Table
 ruled n = record { width = 1; rows = map (λ k. Number (pos k) ∷ []) (counting 0 n) } ∷ []
 
--- the first's tables, then the second's, and only the first 16 of these
+-- both stocks' tables, the first's in front; what would come after table 15 is not shown
 abbrev pub paired : List Table → List Table → List Table
 paired a b = take 16 (a ++ b)

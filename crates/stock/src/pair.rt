@@ -1,4 +1,4 @@
-// The first stock's tables, then the second's.
+// Two stocks as one: the first's tables in front of the second's.
 ghost use mathlib.Core.Path.{_≡_};
 ghost use Rattle.stock.specs.Tables.{paired};
 ghost use Rattle.stock.specs.Tabled.{paired-lawful};

@@ -1,4 +1,4 @@
-// One table of width 1 with 0 to n - 1 in order.
+// A table of the numbers below a bound, for queries that count.
 ghost use mathlib.Core.Path.{_≡_};
 ghost use Prim.Native.Nat.{_≤_};
 ghost use Rattle.stock.specs.Tables.{ruled};
