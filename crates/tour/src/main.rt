@@ -1,4 +1,6 @@
 // A walk through the engine in plain words, over a dealer's kits and shipments.
+mod words;
+
 use cells::cell::Cell;
 use cells::cell::CellDisplay;
 use movements::movements::Movements;

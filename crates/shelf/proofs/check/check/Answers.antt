@@ -12,13 +12,13 @@ pub returns-then-i-ge-MOST-TABLES : need.returns-then-i-ge-MOST-TABLES
 returns-then-i-ge-MOST-TABLES c =
     let ps = c .args .pairs .now in
     let cs = c .args .cells .now in
-    sym (ap (λ o. check-answer o (length ps)) (c .loop-i .inv .1 ∙ fault-over ps cs (c .loop-i .i) (c .loop-i .at) (c .loop-i-test .taken) (c .if-i-ge-MOST-TABLES .taken)))
+    sym (ap (λ o. check-answer o (length ps)) (c .loop-i .inv .1 ∙ fault-over ps cs (c .loop-i .i) (c .loop-i .at) (c .loop-i-test .taken) (omega arith)))
 
 pub returns-then-not-fitting : need.returns-then-not-fitting
 returns-then-not-fitting c =
     let ps = c .args .pairs .now in
     let cs = c .args .cells .now in
-    sym (ap (λ o. check-answer o (length ps)) (c .loop-i .inv .1 ∙ fault-here ps cs (c .loop-i .i) (c .loop-i .at) (c .loop-i-test .taken) (c .if-i-ge-MOST-TABLES .left) (sym (c .if-not-fitting .ensures tt))))
+    sym (ap (λ o. check-answer o (length ps)) (c .loop-i .inv .1 ∙ fault-here ps cs (c .loop-i .i) (c .loop-i .at) (c .loop-i-test .taken) (omega arith) (sym (c .if-not-fitting .ensures tt))))
 
 pub loop-i-again : need.loop-i-again
 loop-i-again c =
@@ -28,17 +28,17 @@ loop-i-again c =
     let r = fits-room (getD ps (c .loop-i .i) (0, 0)) (drop (c .loop-i .at) cs) f in
     let d = length-drop (c .loop-i .at) cs in
     let k = c .loop-i .inv .0 in
-    (omega arith, c .loop-i .inv .1 ∙ fault-more ps cs (c .loop-i .i) (c .loop-i .at) (c .loop-i-test .taken) (c .if-i-ge-MOST-TABLES .left) f)
+    (omega arith, c .loop-i .inv .1 ∙ fault-more ps cs (c .loop-i .i) (c .loop-i .at) (c .loop-i-test .taken) (omega arith) f)
 
 pub returns-then-at-cells : need.returns-then-at-cells
 returns-then-at-cells c =
     let ps = c .args .pairs .now in
     let cs = c .args .cells .now in
     let z : c .saturating-sub .result ≡ c .loop-i .i - 1 = omega arith in
-    ap (λ k. Err (BadTable k)) z ∙ sym (ap (λ o. check-answer o (length ps)) (c .loop-i .inv .1 ∙ fault-left ps cs (c .loop-i .i) (c .loop-i .at) (c .loop-i-test .left) (c .if-at-cells .taken)))
+    ap (λ k. Err (BadTable k)) z ∙ sym (ap (λ o. check-answer o (length ps)) (c .loop-i .inv .1 ∙ fault-left ps cs (c .loop-i .i) (c .loop-i .at) (c .loop-i-test .left) (omega arith)))
 
 pub returns : need.returns
 returns c =
     let ps = c .args .pairs .now in
     let cs = c .args .cells .now in
-    sym (ap (λ o. check-answer o (length ps)) (c .loop-i .inv .1 ∙ fault-none ps cs (c .loop-i .i) (c .loop-i .at) (c .loop-i-test .left) (c .if-at-cells .left)))
+    sym (ap (λ o. check-answer o (length ps)) (c .loop-i .inv .1 ∙ fault-none ps cs (c .loop-i .i) (c .loop-i .at) (c .loop-i-test .left) (omega arith)))

@@ -6,13 +6,14 @@ use lib.ListN.{length, getD, take}
 use Rattle.movements.specs.Moves.{added-rows}
 use Rattle.stock.specs.Tables.{width-of, rows-at}
 use Rattle.cells.specs.declared.cell.Cell.the-variants.{Null}
+use Rattle.movements.specs.Shown.{items-of}
 use Rattle.movements.specs.Moving.{nth-added, added-rows-short, length-added-rows}
 use Rattle.stock.specs.Tabled.{small-width}
 use Rattle.std.proofs.shelf.Lists.{getD-take, getD-past}
 use Rattle.movements.proofs.movements.Movements.added_cell.Needs as need
 
 pub returns-then-column-width : need.returns-then-column-width
-returns-then-column-width g c = sym (getD-past (getD (added-rows (c .args .table) (width-of (g .S·Stock .tables (c .args .self .now .below)) (c .args .table)) (take (c .args .self .now .added .count) (c .args .self .now .added .items))) (c .args .k) []) (c .args .column) Null (let s = added-rows-short (c .args .table) (width-of (g .S·Stock .tables (c .args .self .now .below)) (c .args .table)) (take (c .args .self .now .added .count) (c .args .self .now .added .items)) (c .args .k) in omega arith))
+returns-then-column-width g c = sym (getD-past (getD (added-rows (c .args .table) (width-of (g .S·Stock .tables (c .args .self .now .below)) (c .args .table)) (items-of (c .args .self .now .added))) (c .args .k) []) (c .args .column) Null (let s = added-rows-short (c .args .table) (width-of (g .S·Stock .tables (c .args .self .now .below)) (c .args .table)) (items-of (c .args .self .now .added)) (c .args .k) in omega arith))
 
 pub offset-m-column : need.offset-m-column
 offset-m-column g c = let s = small-width (g .S·Stock .tables (c .args .self .now .below)) (c .args .table) (g .S·Stock .lawful (c .args .self .now .below)) in omega arith

@@ -1,4 +1,5 @@
 use mathlib.Core.Path.{refl}
+use borrow.Author.Needs.{needs}
 use Rattle.movements.proofs.Empty.{shows-below, uncut-below}
 use Rattle.movements.proofs.movements.Movements.clear.Needs as need
 
@@ -10,8 +11,8 @@ returns g c =
     let h = c .clear-2 .last .self in
     record {
       same = refl;
-      adds = c .clear .ensures;
-      hides = c .clear-2 .ensures;
+      adds = search needs;
+      hides = search needs;
       shows = shows-below ts a h (c .clear .ensures) (c .clear-2 .ensures) good;
       uncut = uncut-below ts a h (c .clear .ensures) (c .clear-2 .ensures) good;
     }

@@ -1,4 +1,5 @@
 use mathlib.Core.Path.{_≡_, refl, sym, ap, subst, _∙_}
+use mathlib.Core.List.{[], _∷_, _++_}
 use mathlib.Core.Logic.{⊎-elim}
 use Prim.Native.Nat.{_+_, _-_, _<_, _≤_, min}
 use native.Mathlib.Omega.{arith}
@@ -11,6 +12,7 @@ use Rattle.movements.specs.Moves.{moved, remaining, added-count}
 use Rattle.movements.specs.Moving.{rows-moved, rows-moved-past, length-moved}
 use Rattle.movements.specs.Shown.{items-of, shown, rows-remaining}
 use Rattle.movements.specs.Shown.Taken.{below, own}
+use Rattle.movements.specs.declared.moved.Hidden.{Hidden}
 use Rattle.movements.proofs.Changes.{hidden-shows, hidden-room, struck-shows, struck-room, rows-changed}
 use Rattle.movements.proofs.Rowed.{withdraw-below, withdraw-own}
 use Rattle.movements.proofs.movements.Movements.withdraw.Needs as need
@@ -27,17 +29,18 @@ returns-then-place-kept g c =
     let k = rows-remaining (g .S·Stock .tables) s t in
     let l = length-moved ms hs base in
     let in′ : t < length base = ⊎-elim (λ y. y) (λ n. let z = rows-moved-past t ms hs base n in absurd (omega arith)) (cases-lt t (length base)) in
-    let after = c .push .ensures .items in
+    let h : Hidden = record { table = t; place = p } in
+    let after : items-of (c .push .last .self) ≡ hs ++ h ∷ [] = cc in
     let few = rows-moved t ms hs base in′ in
     record {
       cause = (withdraw-below ts k (s .hidden .count) t p (omega arith) (omega arith) (omega arith), omega arith, refl);
       shows = λ u.
-          let e = ap (λ x. moved ms x base) after ∙ hidden-shows ms hs _ t p base refl refl in′ (omega arith) (u t) in
+          let e = ap (λ x. moved ms x base) after ∙ hidden-shows ms hs h t p base refl refl in′ (omega arith) (u t) in
           let r = ap (λ x. rows-of x t) e ∙ ap length (rows-changed (λ rs. removed rs p) ts t (omega arith)) in
           let n = length-removed (rows-at ts t) p (omega arith) in
           (e, omega arith);
-      parts = below _ (omega arith) refl refl refl after;
-      uncut = λ u j. subst (λ x. length (remaining j x (rows-at base j)) + added-count j ms ≤ 65535) (sym after) (hidden-room ms hs _ j (rows-at base j) (u j));
+      parts = below h (omega arith) refl refl refl after;
+      uncut = λ u j. subst (λ x. length (remaining j x (rows-at base j)) + added-count j ms ≤ 65535) (sym after) (hidden-room ms hs h j (rows-at base j) (u j));
     }
 
 pub returns-in-rest : need.returns-in-rest

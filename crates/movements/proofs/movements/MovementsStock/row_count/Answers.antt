@@ -5,6 +5,7 @@ use lib.ListN.{take, length}
 use Rattle.std.proofs.shelf.Lists.{length-take-le}
 use Rattle.stock.specs.Tables.{rows-at}
 use Rattle.movements.specs.Moves.{remaining}
+use Rattle.movements.specs.Shown.{items-of}
 use Rattle.movements.specs.Moving.{rows-moved, rows-moved-past, length-remaining-le, added-count-le}
 use Rattle.stock.specs.Tabled.{few-rows}
 use Rattle.movements.proofs.movements.MovementsStock.row_count.Needs as need
@@ -21,10 +22,10 @@ add-n g c =
     omega arith
 
 pub returns-then-n-lt-MOST-ROWS : need.returns-then-n-lt-MOST-ROWS
-returns-then-n-lt-MOST-ROWS g c = let e = rows-moved (c .args .table) (take (c .args .self .now .added .count) (c .args .self .now .added .items)) (take (c .args .self .now .hidden .count) (c .args .self .now .hidden .items)) (g .S·Stock .tables (c .args .self .now .below)) (omega arith) in omega arith
+returns-then-n-lt-MOST-ROWS g c = let e = rows-moved (c .args .table) (items-of (c .args .self .now .added)) (items-of (c .args .self .now .hidden)) (g .S·Stock .tables (c .args .self .now .below)) (omega arith) in omega arith
 
 pub returns-else-n-lt-MOST-ROWS : need.returns-else-n-lt-MOST-ROWS
-returns-else-n-lt-MOST-ROWS g c = let e = rows-moved (c .args .table) (take (c .args .self .now .added .count) (c .args .self .now .added .items)) (take (c .args .self .now .hidden .count) (c .args .self .now .hidden .items)) (g .S·Stock .tables (c .args .self .now .below)) (omega arith) in omega arith
+returns-else-n-lt-MOST-ROWS g c = let e = rows-moved (c .args .table) (items-of (c .args .self .now .added)) (items-of (c .args .self .now .hidden)) (g .S·Stock .tables (c .args .self .now .below)) (omega arith) in omega arith
 
 pub returns-else-table-table-count : need.returns-else-table-table-count
-returns-else-table-table-count g c = sym (rows-moved-past (c .args .table) (take (c .args .self .now .added .count) (c .args .self .now .added .items)) (take (c .args .self .now .hidden .count) (c .args .self .now .hidden .items)) (g .S·Stock .tables (c .args .self .now .below)) (omega arith))
+returns-else-table-table-count g c = sym (rows-moved-past (c .args .table) (items-of (c .args .self .now .added)) (items-of (c .args .self .now .hidden)) (g .S·Stock .tables (c .args .self .now .below)) (omega arith))

@@ -1,7 +1,10 @@
-use mathlib.Core.Path.{sym, _∙_}
-use lib.ListN.{take}
+use native.Mathlib.Omega.{arith}
+use Rattle.movements.specs.Shown.{items-of}
 use Rattle.movements.specs.Moving.{length-moved}
 use Rattle.movements.proofs.movements.MovementsStock.table_count.Needs as need
 
 pub returns : need.returns
-returns g c = c .table-count .ensures ∙ sym (length-moved (take (c .args .self .now .added .count) (c .args .self .now .added .items)) (take (c .args .self .now .hidden .count) (c .args .self .now .hidden .items)) (g .S·Stock .tables (c .args .self .now .below)))
+returns g c =
+    let s = c .args .self .now in
+    let same = length-moved (items-of (s .added)) (items-of (s .hidden)) (g .S·Stock .tables (s .below)) in
+    omega arith

@@ -1,7 +1,10 @@
-use mathlib.Core.Path.{sym, _∙_}
-use lib.ListN.{take}
+use native.Mathlib.Omega.{arith}
+use Rattle.movements.specs.Shown.{items-of}
 use Rattle.movements.specs.Moving.{width-moved}
 use Rattle.movements.proofs.movements.MovementsStock.width.Needs as need
 
 pub returns : need.returns
-returns g c = c .width .ensures ∙ sym (width-moved (c .args .table) (take (c .args .self .now .added .count) (c .args .self .now .added .items)) (take (c .args .self .now .hidden .count) (c .args .self .now .hidden .items)) (g .S·Stock .tables (c .args .self .now .below)))
+returns g c =
+    let s = c .args .self .now in
+    let same = width-moved (c .args .table) (items-of (s .added)) (items-of (s .hidden)) (g .S·Stock .tables (s .below)) in
+    omega arith

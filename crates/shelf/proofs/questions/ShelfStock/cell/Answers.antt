@@ -28,22 +28,22 @@ returns-then-column-w c =
     sym (getD-past (getD (rows-at ts (c .args .table)) (c .args .place) []) (c .args .column) Null (omega arith))
 
 pub start-at-requires : need.start-at-requires
-start-at-requires c κs = let s = c .args .self .now in shown-table (s .pairs .now) (s .cells .now) (c .args .table) (c .args .place) (c .args .column) (c .pair-at-w .result .0) (c .pair-at-w .result .1) (c .pair-at-w .ensures .width) (c .pair-at-w .ensures .rows) (c .if-place-r .left) (c .if-column-w .left)
+start-at-requires c κs = let s = c .args .self .now in shown-table (s .pairs .now) (s .cells .now) (c .args .table) (c .args .place) (c .args .column) (c .pair-at-w .result .0) (c .pair-at-w .result .1) (c .pair-at-w .ensures .width) (c .pair-at-w .ensures .rows) (omega arith) (omega arith)
 
 pub mul-result : need.mul-result
-mul-result c = let s = c .args .self .now in let k = cell-within (s .pairs .now) (s .cells .now) (c .args .table) (c .args .place) (c .args .column) (c .pair-at-w .result .0) (c .pair-at-w .result .1) (c .pair-at-w .ensures .width) (c .pair-at-w .ensures .rows) (c .if-place-r .left) (c .if-column-w .left) in omega arith
+mul-result c = let s = c .args .self .now in let k = cell-within (s .pairs .now) (s .cells .now) (c .args .table) (c .args .place) (c .args .column) (c .pair-at-w .result .0) (c .pair-at-w .result .1) (c .pair-at-w .ensures .width) (c .pair-at-w .ensures .rows) (omega arith) (omega arith) in omega arith
 
 pub add-result : need.add-result
-add-result c = let s = c .args .self .now in let e = c .start-at .ensures in let k = cell-within (s .pairs .now) (s .cells .now) (c .args .table) (c .args .place) (c .args .column) (c .pair-at-w .result .0) (c .pair-at-w .result .1) (c .pair-at-w .ensures .width) (c .pair-at-w .ensures .rows) (c .if-place-r .left) (c .if-column-w .left) in omega arith
+add-result c = let s = c .args .self .now in let e = c .start-at .ensures in let k = cell-within (s .pairs .now) (s .cells .now) (c .args .table) (c .args .place) (c .args .column) (c .pair-at-w .result .0) (c .pair-at-w .result .1) (c .pair-at-w .ensures .width) (c .pair-at-w .ensures .rows) (omega arith) (omega arith) in omega arith
 
 pub add-result-2 : need.add-result-2
-add-result-2 c = let s = c .args .self .now in let e = c .start-at .ensures in let k = cell-within (s .pairs .now) (s .cells .now) (c .args .table) (c .args .place) (c .args .column) (c .pair-at-w .result .0) (c .pair-at-w .result .1) (c .pair-at-w .ensures .width) (c .pair-at-w .ensures .rows) (c .if-place-r .left) (c .if-column-w .left) in omega arith
+add-result-2 c = let s = c .args .self .now in let e = c .start-at .ensures in let k = cell-within (s .pairs .now) (s .cells .now) (c .args .table) (c .args .place) (c .args .column) (c .pair-at-w .result .0) (c .pair-at-w .result .1) (c .pair-at-w .ensures .width) (c .pair-at-w .ensures .rows) (omega arith) (omega arith) in omega arith
 
 pub offset-self-at : need.offset-self-at
-offset-self-at c = let s = c .args .self .now in let e = c .start-at .ensures in let k = cell-within (s .pairs .now) (s .cells .now) (c .args .table) (c .args .place) (c .args .column) (c .pair-at-w .result .0) (c .pair-at-w .result .1) (c .pair-at-w .ensures .width) (c .pair-at-w .ensures .rows) (c .if-place-r .left) (c .if-column-w .left) in omega arith
+offset-self-at c = let s = c .args .self .now in let e = c .start-at .ensures in let k = cell-within (s .pairs .now) (s .cells .now) (c .args .table) (c .args .place) (c .args .column) (c .pair-at-w .result .0) (c .pair-at-w .result .1) (c .pair-at-w .ensures .width) (c .pair-at-w .ensures .rows) (omega arith) (omega arith) in omega arith
 
 pub index-self-at : need.index-self-at
-index-self-at c = let s = c .args .self .now in let e = c .start-at .ensures in let k = cell-within (s .pairs .now) (s .cells .now) (c .args .table) (c .args .place) (c .args .column) (c .pair-at-w .result .0) (c .pair-at-w .result .1) (c .pair-at-w .ensures .width) (c .pair-at-w .ensures .rows) (c .if-place-r .left) (c .if-column-w .left) in omega arith
+index-self-at c = let s = c .args .self .now in let e = c .start-at .ensures in let k = cell-within (s .pairs .now) (s .cells .now) (c .args .table) (c .args .place) (c .args .column) (c .pair-at-w .result .0) (c .pair-at-w .result .1) (c .pair-at-w .ensures .width) (c .pair-at-w .ensures .rows) (omega arith) (omega arith) in omega arith
 
 pub returns : need.returns
-returns c = let s = c .args .self .now in cell-there (s .pairs .now) (s .cells .now) (c .args .table) (c .args .place) (c .args .column) (c .pair-at-w .result .0) (c .pair-at-w .result .1) (c .pair-at-w .ensures .width) (c .pair-at-w .ensures .rows) (c .if-place-r .left) (c .if-column-w .left) (c .start-at .result) (c .start-at .ensures)
+returns c = let s = c .args .self .now in cell-there (s .pairs .now) (s .cells .now) (c .args .table) (c .args .place) (c .args .column) (c .pair-at-w .result .0) (c .pair-at-w .result .1) (c .pair-at-w .ensures .width) (c .pair-at-w .ensures .rows) (omega arith) (omega arith) (c .start-at .result) (c .start-at .ensures)

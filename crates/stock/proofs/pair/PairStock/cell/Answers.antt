@@ -1,4 +1,4 @@
-use mathlib.Core.Path.{sym, ap, _∙_}
+use mathlib.Core.Path.{sym, ap}
 use native.Mathlib.Omega.{arith}
 use lib.ListN.{getD}
 use mathlib.Core.List.{[]}
@@ -11,7 +11,13 @@ pub returns-then-table-ge16 : need.returns-then-table-ge16
 returns-then-table-ge16 g c = sym (ap (λ (t : Table). getD (getD (t .rows) (c .args .place) []) (c .args .column) Null) (paired-past (g .X·Stock .tables (c .args .self .now .first)) (g .Y·Stock .tables (c .args .self .now .second)) (c .args .table) (omega arith)))
 
 pub returns-then-table-n : need.returns-then-table-n
-returns-then-table-n g c = c .cell .ensures ∙ sym (ap (λ (t : Table). getD (getD (t .rows) (c .args .place) []) (c .args .column) Null) (paired-first (g .X·Stock .tables (c .args .self .now .first)) (g .Y·Stock .tables (c .args .self .now .second)) (c .args .table) (omega arith) (omega arith)))
+returns-then-table-n g c =
+    let shown = ap (λ (t : Table). getD (getD (t .rows) (c .args .place) []) (c .args .column) Null) (paired-first (g .X·Stock .tables (c .args .self .now .first)) (g .Y·Stock .tables (c .args .self .now .second)) (c .args .table) (omega arith) (omega arith)) in
+    let asked = c .cell .ensures in
+    cc
 
 pub returns-else-table-n : need.returns-else-table-n
-returns-else-table-n g c = rw (c .table-count-n .ensures) at (c .cell-else-table-n .ensures) ∙ sym (ap (λ (t : Table). getD (getD (t .rows) (c .args .place) []) (c .args .column) Null) (paired-second (g .X·Stock .tables (c .args .self .now .first)) (g .Y·Stock .tables (c .args .self .now .second)) (c .args .table) (omega arith) (omega arith)))
+returns-else-table-n g c =
+    let shown = ap (λ (t : Table). getD (getD (t .rows) (c .args .place) []) (c .args .column) Null) (paired-second (g .X·Stock .tables (c .args .self .now .first)) (g .Y·Stock .tables (c .args .self .now .second)) (c .args .table) (omega arith) (omega arith)) in
+    let asked = rw (c .table-count-n .ensures) at (c .cell-else-table-n .ensures) in
+    cc
