@@ -1,4 +1,5 @@
-// Lines of a query written in words, as people and scripts read them.
+// What the tour says.
+pub mod answers;
 mod conditions;
 mod rows;
 pub mod written;

@@ -7,6 +7,7 @@ use lines::line::Line;
 use lines::line::Shape;
 use std::fmt;
 
+#[derive(Drop)]
 pub struct Written(pub Line);
 
 pub impl fmt::Display for Written as WrittenDisplay {

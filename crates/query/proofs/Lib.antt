@@ -1,0 +1,15 @@
+pub mod Reading
+pub mod Growing
+pub mod Fitting
+pub mod Handing
+pub mod Readers
+pub mod Marked
+pub mod Passing
+pub mod Stands
+pub mod Placing
+pub mod Deciding
+pub mod Sounds
+pub mod Tabling
+pub mod Soundness
+pub mod Keeping
+pub mod Laws

@@ -1,0 +1,10 @@
+pub mod Reads
+pub mod Fits
+pub mod Contexts
+pub mod Sums
+pub mod Verdicts
+pub mod Working
+pub mod Marking
+pub mod Sizes
+pub mod Queries
+pub mod Stored
