@@ -1,0 +1,12 @@
+pub mod Stack
+pub mod Puts
+pub mod Blocks
+pub mod Growth
+pub mod Reshaping
+pub mod Sames
+pub mod Filtering
+pub mod Meaning
+pub mod Pairing
+pub mod Folding
+pub mod Grouping
+pub mod Tabling

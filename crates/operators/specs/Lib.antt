@@ -1,0 +1,4 @@
+pub mod Places
+pub mod Laid
+pub mod Steps
+pub mod Folds
