@@ -16,8 +16,8 @@ pub union-laid : (b x y : List Cell) (ls n rs m out w v : ℕ) → v ≡ w → r
 union-laid b x y ls n rs m out w v e h p q =
     let P : ℕ → Type 0 = λ u. rs + m * u ≤ out → Put x y (out + n * w) (m * u) (row-at x rs (m * u)) → Laid b y out (n + m) w (rows-from b ls n w ++ rows-from b rs m u) in
     subst P (sym e) (λ h′ q′. laid-join b x y out n m w (rows-from b ls n w) (rows-from b rs m w) (laid-copy b x ls out n w p)
-      (let k = rows-below x b out rs m w (p .below) h′ in
-       let Q : List Row → Type 0 = λ r. Laid x y (out + n * w) m w r in subst Q k (laid-copy x y rs (out + n * w) m w q′))) h q
+    (let k = rows-below x b out rs m w (p .below) h′ in
+    let Q : List Row → Type 0 = λ r. Laid x y (out + n * w) m w r in subst Q k (laid-copy x y rs (out + n * w) m w q′))) h q
 
 pub union-over : (b : List Cell) (ls n rs m out w v : ℕ) → v ≡ w → out ≤ length b → length b - out < n * w + m * v → length b < out + length (rows-from b ls n w ++ rows-from b rs m v) * w
 union-over b ls n rs m out w v e o h =

@@ -64,7 +64,7 @@ module _ (ls : List Line) (i : ℕ) (h : i ≤ length ls) where
   front-at : (a : ℕ) → a < i → at (grow [] (take i ls)) a ≡ at (grow [] ls) a
   front-at a k =
       sym (ap (λ v. at (grow [] v) a) (sym (take-append-drop i ls)) ∙ ap (λ v. at v a) (grow-append [] (take i ls) (drop i ls))
-          ∙ grow-keeps (grow [] (take i ls)) (drop i ls) a (omega (arith, front-length)))
+      ∙ grow-keeps (grow [] (take i ls)) (drop i ls) a (omega (arith, front-length)))
 
 -- a line's node, by the nodes of its operands
 pub node-is : (ls : List Line) (i : ℕ) (d : Line) → i < length ls → Lower i (getD ls i d) → at (grow [] ls) i ≡ build (grow [] ls) (getD ls i d)

@@ -30,17 +30,19 @@ copy-more d from to count i a lt s t = rw (copy-reads d from to count i a lt s t
 -- what is pasted lies there
 pub put-paste : (d xs s : List Cell) (to w i : ℕ) → xs ≡ paste d to s i → w ≤ i → i ≤ w → to + w ≤ length d → w ≤ length s → Put d xs to w (take w s)
 put-paste d xs s to w i e a b t l = let n : i ≡ w = omega arith in rw (e, n) (record {
-    below = same-lists _ _ (search (needs, places)) (λ k z h. grind (arith, places));
-    row = same-lists _ _ (search (needs, places)) (λ k z h. grind (arith, places));
-    within = rw (length-paste d to s w t l) t;
-    kept = length-paste d to s w t l })
+  below = same-lists _ _ (search (needs, places)) (λ k z h. grind (arith, places));
+  row = same-lists _ _ (search (needs, places)) (λ k z h. grind (arith, places));
+  within = rw (length-paste d to s w t l) t;
+  kept = length-paste d to s w t l;
+})
 
 pub put-one : (d : List Cell) (to : ℕ) (c : Cell) → to < length d → Put d (set d to c) to 1 (c ∷ [])
 put-one d to c h = record {
-    below = take-set d to c;
-    row = ap (take 1) (drop-set d to c h) ∙ refl;
-    within = rw (length-set d to c) (omega arith);
-    kept = length-set d to c }
+  below = take-set d to c;
+  row = ap (take 1) (drop-set d to c h) ∙ refl;
+  within = rw (length-set d to c) (omega arith);
+  kept = length-set d to c;
+}
 
 -- rows are the same part by part
 pub same-append : (a b c d : Row) → length a ≡ length b → same-row (a ++ c) (b ++ d) ≡ (same-row a b && same-row c d)

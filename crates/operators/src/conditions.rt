@@ -41,7 +41,10 @@ pub(crate) fn truth_at(lines: &[Line], i: usize, context: &[Cell], row: &[Cell])
     ensures { λ r. ⌜ r ≡ truth-at (condition-at (now (lines .entry)) i) (now (context .entry) ++ now (row .entry)) ⌝ }
 {
     match lines[i] {
-        Line::Compare { sign, left, right } => sign.compare(side_cell(left, context, row), side_cell(right, context, row)),
+        Line::Compare { sign, left, right } => sign.compare(
+            side_cell(left, context, row),
+            side_cell(right, context, row),
+        ),
         Line::IsNull { column } => Truth::of(long_cell(context, row, column).is_null()),
         Line::Not { condition } => truth_at(lines, condition, context, row).not(),
         Line::Unknown { condition } => truth_at(lines, condition, context, row).unknown(),

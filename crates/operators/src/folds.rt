@@ -11,14 +11,14 @@ ghost use Rattle.lines.specs.Ops.{step-of, folded, group-rows};
 ghost use Rattle.operators.specs.Places.{row-at, rows-in, next-row, Stands, Next, Room};
 ghost use Rattle.operators.specs.Laid.{Lays};
 ghost use Rattle.operators.specs.Folds.{addable, Addable, adds, best-of, result-of, Within, folded-alike, grouped};
-use cells::cell::Cell;
-use lines::line::Aggregate;
 use crate::conditions::long_cell;
 use crate::filters::has_alike;
 use crate::moves::copy;
 use crate::moves::put;
 use crate::moves::same_cells;
 use crate::region::Region;
+use cells::cell::Cell;
+use lines::line::Aggregate;
 
 // What has been worked out so far: a count or a sum in `sum`, a least or greatest number in `best`, which is None until a filled cell comes.
 #[derive(Clone, Copy)]
@@ -68,7 +68,10 @@ impl Running {
         ensures value { λ r. ⌜ result-of aggregate r ≡ step-of aggregate cell (result-of aggregate self) ⌝ }
         ensures within { λ r. ⌜ ((n : ℕ) → Within n (self .sum) → Within (n + 1) (r .sum)) ⌝ }
     {
-        Running { sum: self.sum_with(aggregate, cell), best: better(aggregate, cell, self.best) }
+        Running {
+            sum: self.sum_with(aggregate, cell),
+            best: better(aggregate, cell, self.best),
+        }
     }
 
     // The aggregate's cell.
@@ -84,7 +87,16 @@ impl Running {
 }
 
 // One row on: that after the ones in front, if it begins with the n cells at `at`.
-fn step_row(running: Running, aggregate: Aggregate, column: usize, context: &[Cell], cells: &[Cell], at: usize, n: usize, front: Region) -> Running
+fn step_row(
+    running: Running,
+    aggregate: Aggregate,
+    column: usize,
+    context: &[Cell],
+    cells: &[Cell],
+    at: usize,
+    n: usize,
+    front: Region,
+) -> Running
     requires next { ⌜ Next front (length (now cells)) ⌝ }
     requires key { ⌜ at + n ≤ length (now cells) ⌝ }
     requires keys { ⌜ n ≤ front .width ⌝ }
@@ -98,11 +110,22 @@ fn step_row(running: Running, aggregate: Aggregate, column: usize, context: &[Ce
     if !same_cells(cells, at, row, n) {
         return running;
     }
-    running.step(aggregate, long_cell(context, &cells[row..row + front.width], column))
+    running.step(
+        aggregate,
+        long_cell(context, &cells[row..row + front.width], column),
+    )
 }
 
 // The aggregate over the rows that begin with the n cells at `at`.
-fn fold_alike(aggregate: Aggregate, column: usize, context: &[Cell], cells: &[Cell], at: usize, n: usize, rows: Region) -> Cell
+fn fold_alike(
+    aggregate: Aggregate,
+    column: usize,
+    context: &[Cell],
+    cells: &[Cell],
+    at: usize,
+    n: usize,
+    rows: Region,
+) -> Cell
     requires rows { ⌜ Stands rows (length (now cells)) ⌝ }
     requires few { ⌜ rows .rows ≤ 65536 ⌝ }
     requires key { ⌜ at + n ≤ length (now cells) ⌝ }
@@ -112,14 +135,25 @@ fn fold_alike(aggregate: Aggregate, column: usize, context: &[Cell], cells: &[Ce
 {
     let mut running = Running { sum: 0, best: None };
     for j in (0..rows.rows).rev() {
-        let front = Region { start: rows.start, rows: j, width: rows.width };
+        let front = Region {
+            start: rows.start,
+            rows: j,
+            width: rows.width,
+        };
         running = step_row(running, aggregate, column, context, cells, at, n, front);
     }
     running.finish(aggregate)
 }
 
 // One row of one cell: the aggregate over all rows.
-pub fn total(context: &[Cell], cells: &mut [Cell], rows: Region, aggregate: Aggregate, column: usize, out: usize) -> Option<usize>
+pub fn total(
+    context: &[Cell],
+    cells: &mut [Cell],
+    rows: Region,
+    aggregate: Aggregate,
+    column: usize,
+    out: usize,
+) -> Option<usize>
     requires rows { ⌜ Stands rows out ⌝ }
     requires addable { ⌜ Addable aggregate column (now context) (rows-in (now cells) rows) ⌝ }
     requires room { ⌜ Room (now cells) out ⌝ }
@@ -135,7 +169,16 @@ pub fn total(context: &[Cell], cells: &mut [Cell], rows: Region, aggregate: Aggr
 }
 
 // Lays the row's first columns with the aggregate over the rows that share them, if no row in front has them.
-fn group_row(context: &[Cell], cells: &mut [Cell], front: Region, rows: Region, keys: usize, aggregate: Aggregate, column: usize, to: usize) -> Option<usize>
+fn group_row(
+    context: &[Cell],
+    cells: &mut [Cell],
+    front: Region,
+    rows: Region,
+    keys: usize,
+    aggregate: Aggregate,
+    column: usize,
+    to: usize,
+) -> Option<usize>
     requires next { ⌜ Next front to ⌝ }
     requires rows { ⌜ Stands rows to ⌝ }
     requires front_keys { ⌜ keys ≤ front .width ⌝ }
@@ -159,7 +202,15 @@ fn group_row(context: &[Cell], cells: &mut [Cell], front: Region, rows: Region, 
 }
 
 // For each different start of a row, by first appearance, this and the aggregate over its rows.
-pub fn group(context: &[Cell], cells: &mut [Cell], rows: Region, keys: usize, aggregate: Aggregate, column: usize, out: usize) -> Option<usize>
+pub fn group(
+    context: &[Cell],
+    cells: &mut [Cell],
+    rows: Region,
+    keys: usize,
+    aggregate: Aggregate,
+    column: usize,
+    out: usize,
+) -> Option<usize>
     requires rows { ⌜ Stands rows out ⌝ }
     requires keys { ⌜ keys ≤ rows .width ⌝ }
     requires addable { ⌜ Addable aggregate column (now context) (rows-in (now cells) rows) ⌝ }
@@ -170,8 +221,21 @@ pub fn group(context: &[Cell], cells: &mut [Cell], rows: Region, keys: usize, ag
     let w = keys + 1;
     let mut k = 0;
     for i in 0..rows.rows {
-        let front = Region { start: rows.start, rows: i, width: rows.width };
-        let more = group_row(context, cells, front, rows, keys, aggregate, column, out + k * w)?;
+        let front = Region {
+            start: rows.start,
+            rows: i,
+            width: rows.width,
+        };
+        let more = group_row(
+            context,
+            cells,
+            front,
+            rows,
+            keys,
+            aggregate,
+            column,
+            out + k * w,
+        )?;
         k += more;
     }
     Some(k)

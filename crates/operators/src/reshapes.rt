@@ -11,32 +11,23 @@ ghost use Rattle.lines.specs.Shapes.{Ordered};
 ghost use Rattle.operators.specs.Places.{row-at, rows-in, Stands, Room};
 ghost use Rattle.operators.specs.Laid.{Put, Lays};
 ghost use Rattle.operators.specs.Steps.{condition-at, reshaped, reshaped-width, Reshapes};
-use cells::cell::Cell;
-use lines::line::Line;
-use lines::line::Side;
 use crate::conditions::side_cell;
 use crate::conditions::truth_at;
 use crate::moves::copy;
 use crate::moves::put;
 use crate::moves::put_nulls;
 use crate::region::Region;
+use cells::cell::Cell;
+use lines::line::Line;
+use lines::line::Side;
 
 // What is done to each row.
 #[derive(Clone, Copy)]
 enum Reshape {
-    Keep {
-        first: usize,
-        last: usize,
-    },
-    Extend {
-        value: Side,
-    },
-    ExtendTruth {
-        condition: usize,
-    },
-    Pad {
-        nulls: usize,
-    },
+    Keep { first: usize, last: usize },
+    Extend { value: Side },
+    ExtendTruth { condition: usize },
+    Pad { nulls: usize },
 }
 
 // The first and the last columns of the row of w cells at `at`.
@@ -71,7 +62,15 @@ fn pad_row(cells: &mut [Cell], at: usize, w: usize, nulls: usize, to: usize)
 }
 
 // The row of w cells at `at`, made anew at `to`.
-fn reshape_row(lines: &[Line], context: &[Cell], cells: &mut [Cell], at: usize, w: usize, reshape: Reshape, to: usize)
+fn reshape_row(
+    lines: &[Line],
+    context: &[Cell],
+    cells: &mut [Cell],
+    at: usize,
+    w: usize,
+    reshape: Reshape,
+    to: usize,
+)
     requires ordered { ⌜ Ordered (now lines) ⌝ }
     requires fits { ⌜ Reshapes (now lines) w reshape ⌝ }
     requires inside { ⌜ at + w ≤ to ⌝ }
@@ -94,7 +93,15 @@ fn reshape_row(lines: &[Line], context: &[Cell], cells: &mut [Cell], at: usize, 
 }
 
 // Each row made anew, `width` cells wide.
-fn reshape_rows(lines: &[Line], context: &[Cell], cells: &mut [Cell], rows: Region, reshape: Reshape, width: usize, out: usize) -> Option<usize>
+fn reshape_rows(
+    lines: &[Line],
+    context: &[Cell],
+    cells: &mut [Cell],
+    rows: Region,
+    reshape: Reshape,
+    width: usize,
+    out: usize,
+) -> Option<usize>
     requires ordered { ⌜ Ordered (now lines) ⌝ }
     requires fits { ⌜ Reshapes (now lines) (rows .width) reshape ⌝ }
     requires wide { ⌜ width ≡ reshaped-width (rows .width) reshape ⌝ }
@@ -108,30 +115,73 @@ fn reshape_rows(lines: &[Line], context: &[Cell], cells: &mut [Cell], rows: Regi
         return None;
     }
     for i in 0..rows.rows {
-        reshape_row(lines, context, cells, rows.start + i * rows.width, rows.width, reshape, out + i * width);
+        reshape_row(
+            lines,
+            context,
+            cells,
+            rows.start + i * rows.width,
+            rows.width,
+            reshape,
+            out + i * width,
+        );
     }
     Some(rows.rows)
 }
 
-pub fn keep(cells: &mut [Cell], rows: Region, first: usize, last: usize, out: usize) -> Option<usize>
+pub fn keep(
+    cells: &mut [Cell],
+    rows: Region,
+    first: usize,
+    last: usize,
+    out: usize,
+) -> Option<usize>
     requires some { ⌜ first + last ≤ rows .width ⌝ }
     requires rows { ⌜ Stands rows out ⌝ }
     requires room { ⌜ Room (now cells) out ⌝ }
     ensures { λ r. ⌜ Lays (now (cells .entry)) (now (cells .exit)) out (first + last) (map (keep-row first last) (rows-in (now (cells .entry)) rows)) r ⌝ }
 {
-    reshape_rows(&[], &[], cells, rows, Reshape::Keep { first, last }, first + last, out)
+    reshape_rows(
+        &[],
+        &[],
+        cells,
+        rows,
+        Reshape::Keep { first, last },
+        first + last,
+        out,
+    )
 }
 
-pub fn extend(context: &[Cell], cells: &mut [Cell], rows: Region, value: Side, out: usize) -> Option<usize>
+pub fn extend(
+    context: &[Cell],
+    cells: &mut [Cell],
+    rows: Region,
+    value: Side,
+    out: usize,
+) -> Option<usize>
     requires rows { ⌜ Stands rows out ⌝ }
     requires room { ⌜ Room (now cells) out ⌝ }
     ensures { λ r. ⌜ Lays (now (cells .entry)) (now (cells .exit)) out (rows .width + 1)
         (map (λ x. x ++ (side-at value (now (context .entry) ++ x) ∷ [])) (rows-in (now (cells .entry)) rows)) r ⌝ }
 {
-    reshape_rows(&[], context, cells, rows, Reshape::Extend { value }, rows.width + 1, out)
+    reshape_rows(
+        &[],
+        context,
+        cells,
+        rows,
+        Reshape::Extend { value },
+        rows.width + 1,
+        out,
+    )
 }
 
-pub fn extend_truth(lines: &[Line], context: &[Cell], cells: &mut [Cell], rows: Region, condition: usize, out: usize) -> Option<usize>
+pub fn extend_truth(
+    lines: &[Line],
+    context: &[Cell],
+    cells: &mut [Cell],
+    rows: Region,
+    condition: usize,
+    out: usize,
+) -> Option<usize>
     requires ordered { ⌜ Ordered (now lines) ⌝ }
     requires condition { ⌜ condition < length (now lines) ⌝ }
     requires rows { ⌜ Stands rows out ⌝ }
@@ -139,7 +189,15 @@ pub fn extend_truth(lines: &[Line], context: &[Cell], cells: &mut [Cell], rows: 
     ensures { λ r. ⌜ Lays (now (cells .entry)) (now (cells .exit)) out (rows .width + 1)
         (map (λ x. x ++ (as-cell (truth-at (condition-at (now (lines .entry)) condition) (now (context .entry) ++ x)) ∷ [])) (rows-in (now (cells .entry)) rows)) r ⌝ }
 {
-    reshape_rows(lines, context, cells, rows, Reshape::ExtendTruth { condition }, rows.width + 1, out)
+    reshape_rows(
+        lines,
+        context,
+        cells,
+        rows,
+        Reshape::ExtendTruth { condition },
+        rows.width + 1,
+        out,
+    )
 }
 
 pub fn pad(cells: &mut [Cell], rows: Region, nulls: usize, out: usize) -> Option<usize>
@@ -149,5 +207,13 @@ pub fn pad(cells: &mut [Cell], rows: Region, nulls: usize, out: usize) -> Option
     ensures { λ r. ⌜ Lays (now (cells .entry)) (now (cells .exit)) out (rows .width + nulls)
         (map (λ x. x ++ replicate nulls Null) (rows-in (now (cells .entry)) rows)) r ⌝ }
 {
-    reshape_rows(&[], &[], cells, rows, Reshape::Pad { nulls }, rows.width + nulls, out)
+    reshape_rows(
+        &[],
+        &[],
+        cells,
+        rows,
+        Reshape::Pad { nulls },
+        rows.width + nulls,
+        out,
+    )
 }

@@ -5,9 +5,9 @@ ghost use lib.IntN.{pos};
 ghost use Rattle.cells.specs.declared.cell.Cell.the-variants.{Number};
 ghost use Rattle.operators.specs.Places.{rows-in, Stands, Room};
 ghost use Rattle.operators.specs.Laid.{Lays};
-use cells::cell::Cell;
 use crate::moves::copy;
 use crate::region::Region;
+use cells::cell::Cell;
 
 // One row of one cell, 0.
 pub fn unit(cells: &mut [Cell], out: usize) -> Option<usize>

@@ -31,7 +31,7 @@ cut (p ∷ ps) cs = record { width = p .0; rows = rows-cut (p .0) (p .1) cs } �
 abbrev pub fits : ℕ × ℕ → List Cell → Bool
 fits p cs = leb 1 (p .0) && (leb (p .0) 8 && (leb (p .1) 65535 && (leb (p .1 * p .0) (length cs) && every stored (take (p .1 * p .0) cs))))
 
--- the first table at fault, from table i on: a 17th pair is table 16's fault, cells left over are the last table's, or table 0's if there is none
+-- the first table at fault, from table i on: a 17th pair is table 16's fault, and the last table answers for cells that none takes; without tables it is table 0
 abbrev pub fault-from : ℕ → List (ℕ × ℕ) → List Cell → Option ℕ
 fault-from i [] cs = cond (eqb (length cs) 0) None (Some (i - 1))
 fault-from i (p ∷ ps) cs = cond (ltb i 16) (cond (fits p cs) (fault-from (suc i) ps (drop (p .1 * p .0) cs)) (Some i)) (Some 16)

@@ -13,12 +13,13 @@ loop-i-holds c = start (grouped (c .args .keys) (c .args .aggregate) (c .args .c
 
 pub group-row-requires : need.group-row-requires
 group-row-requires c κs = record {
-    next = next-front (c .args .rows) (c .loop-i .i) (c .args .out) _ (c .pre .rows) (c .loop-i-test .taken) (omega arith);
-    rows = stands-up (c .args .rows) (c .args .out) _ (omega arith) (c .pre .rows);
-    front-keys = c .pre .keys;
-    keys = c .pre .keys;
-    addable = addable-below (c .args .aggregate) (c .args .column) (c .args .context .now) (c .loop-i .cells) (c .args .cells .now) (c .args .rows) (c .args .out) (c .loop-i .inv .below) (c .pre .rows) (c .pre .addable);
-    room = record { room = c .loop-i .inv .within; few = omega (arith, c .loop-i .inv .kept, c .pre .room .few) } }
+  next = next-front (c .args .rows) (c .loop-i .i) (c .args .out) _ (c .pre .rows) (c .loop-i-test .taken) (omega arith);
+  rows = stands-up (c .args .rows) (c .args .out) _ (omega arith) (c .pre .rows);
+  front-keys = c .pre .keys;
+  keys = c .pre .keys;
+  addable = addable-below (c .args .aggregate) (c .args .column) (c .args .context .now) (c .loop-i .cells) (c .args .cells .now) (c .args .rows) (c .args .out) (c .loop-i .inv .below) (c .pre .rows) (c .pre .addable);
+  room = record { room = c .loop-i .inv .within; few = omega (arith, c .loop-i .inv .kept, c .pre .room .few) };
+}
 
 pub returns-in-Break-more : need.returns-in-Break-more
 returns-in-Break-more c = rw (c .from-residual .ensures, ← each-grouped (c .args .keys) (c .args .aggregate) (c .args .column) (c .args .context .now) (rows-in (c .args .cells .now) (c .args .rows)))

@@ -10,11 +10,12 @@ use Rattle.operators.proofs.folds.total.Needs as need
 
 pub fold-alike-cell-requires : need.fold-alike-cell-requires
 fold-alike-cell-requires c κs = record {
-    rows = stands-in (c .args .rows) (c .args .cells .now) (c .args .out) (c .pre .rows) (c .pre .room .room);
-    few = few-rows (c .args .rows) (c .args .cells .now) (c .args .out) (c .pre .rows) (c .pre .room);
-    key = omega (arith, c .pre .room .room);
-    keys = omega arith;
-    addable = c .pre .addable }
+  rows = stands-in (c .args .rows) (c .args .cells .now) (c .args .out) (c .pre .rows) (c .pre .room .room);
+  few = few-rows (c .args .rows) (c .args .cells .now) (c .args .out) (c .pre .rows) (c .pre .room);
+  key = omega (arith, c .pre .room .room);
+  keys = omega arith;
+  addable = c .pre .addable;
+}
 
 pub returns : need.returns
 returns c =

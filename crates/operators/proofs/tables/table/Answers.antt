@@ -23,7 +23,8 @@ table-row-requires g c κs =
     let b = inside (c .loop-place .place) (c .row-count-rows .result) (c .width-width .result) (c .loop-place-test .taken) in
     record {
       room = omega (arith, b, c .width-width .ensures, c .if-cells-out .left, c .pre .room .room, c .loop-place .kept .cells);
-      shown = omega (arith, c .loop-place-test .taken, c .row-count-rows .ensures) }
+      shown = omega (arith, c .loop-place-test .taken, c .row-count-rows .ensures);
+    }
 
 pub loop-place-again : need.loop-place-again
 loop-place-again g c =

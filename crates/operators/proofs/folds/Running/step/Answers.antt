@@ -16,4 +16,5 @@ returns c =
     let e : toZ w64 (ofZ w64 z) ≡ adds (c .args .aggregate) (c .args .cell) +ℤ c .args .self .sum = toZ-ofZ w64 z f ∙ c .sum-with .ensures in
     record {
       value = step-is (c .args .aggregate) (c .args .cell) (c .args .self) (toZ w64 (ofZ w64 z)) (c .better .result) e (c .better .ensures);
-      within = λ n q. let P : ℤ → Type 0 = λ x. Within (n + 1) x in subst P (sym e) (within-more n (adds (c .args .aggregate) (c .args .cell)) (c .args .self .sum) (adds-within (c .args .aggregate) (c .args .cell) (c .pre .addable)) q) }
+      within = λ n q. let P : ℤ → Type 0 = λ x. Within (n + 1) x in subst P (sym e) (within-more n (adds (c .args .aggregate) (c .args .cell)) (c .args .self .sum) (adds-within (c .args .aggregate) (c .args .cell) (c .pre .addable)) q);
+    }
