@@ -8,7 +8,7 @@ use lib.ListN.{length, getD, take, set}
 use Rattle.std.proofs.shelf.Lists.{take-more, take-more-set, take-all, length-take-le}
 use Rattle.std.specs.declared.result.Result.{Result}
 use Rattle.std.specs.declared.result.Result.the-variants.{Ok, Err}
-use Rattle.std.specs.Results.{Cases, ErrBy}
+use Rattle.std.specs.Results.{Cases}
 use Rattle.lines.specs.declared.line.Line.{Line}
 use Rattle.lines.specs.Lines.{answer}
 use Rattle.lines.specs.Marks.{Sound}
@@ -22,7 +22,7 @@ use Rattle.stock.specs.declared.refusal.Refusal.the-variants.{LongPlan}
 use Rattle.unnest.specs.Emit.{emit, outermost, flat-lines}
 use Rattle.unnest.specs.Kinds.{In-context}
 use Rattle.unnest.specs.Plans.{is-apply, Well-formed}
-use Rattle.unnest.specs.Rooms.{Emitted, Too-long}
+use Rattle.unnest.specs.Rooms.{Emitted, Too-long, Puts}
 use Rattle.unnest.specs.declared.plan.FlatPlan.{FlatPlan}
 use Rattle.unnest.specs.FlatPlans.{plan-lines, plan-widths, asked-lines, Unnested, Refused}
 use Rattle.unnest.specs.Statement.{Agree}
@@ -55,10 +55,10 @@ pub formed-so : (ws vs : List ℕ) (ls ps : List Line) → vs ≡ ws → ps ≡ 
 formed-so ws vs ls ps e f s = subst (λ v. Well-formed v ps) (sym e) (subst (Well-formed ws) (sym f) (well-formed ws ls s))
 
 -- the outcome, from that of the emission
-pub refused-so : (q : Query) (r : Result FlatPlan Refusal) (n : ℕ) (o : List Line) (why : Refusal) → n ≡ length (lines-of q) → o ≡ []
-    → ErrBy r (λ x. x ≡ why) → Too-long o (emit (widths-of q) (tree-at (lines-of q) (n - 1)) outermost (length o)) why → Cases r (λ p. Unnested q p) (λ e. Refused q e)
-refused-so q (Ok p) n o why e z h t = absurd h
-refused-so q (Err x) n o why e z h t = record { cause = h ∙ t .cause; over = whole-long (widths-of q) (lines-of q) n e o why z t }
+pub whole-so : (q : Query) (n : ℕ) (o p : List Line) (r : Result ℕ Refusal) → n ≡ length (lines-of q) → o ≡ []
+    → Puts o p (emit (widths-of q) (tree-at (lines-of q) (n - 1)) outermost (length o)) r → Cases r (λ k. p ≡ asked-lines q) (λ e. Refused q e)
+whole-so q n o p (Ok k) e z m = whole (widths-of q) (lines-of q) n e o p k z m
+whole-so q n o p (Err x) e z t = record { cause = t .cause; over = whole-long (widths-of q) (lines-of q) n e o x z t }
 
 pub unnested-so : (q : Query) (p : FlatPlan) → plan-lines p ≡ asked-lines q → plan-widths p ≡ widths-of q → Unnested q p
 unnested-so q p e f =

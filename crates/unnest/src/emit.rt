@@ -11,6 +11,7 @@ ghost use Rattle.unnest.specs.Emit.{breadth, emit-condition, emit as emit-line
 ghost use Rattle.unnest.specs.Kinds.{In-context};
 use crate::kinds::lay_apply;
 use crate::kinds::lay_own;
+use crate::laying::lay_domain;
 use crate::place::Place;
 use crate::room::Room;
 use lines::line::Line;
@@ -87,7 +88,7 @@ pub(crate) fn emit(
         }
         Shape::Inner(left, right) => {
             let one = emit(query, left, place, plan)?;
-            let domain = plan.push(&[Line::Distinct { rows: one }])?;
+            let domain = lay_domain(plan, one)?;
             let columns = place.columns() + query.line_width(left);
             let two = emit(query, right, Place::Inside { columns, domain }, plan)?;
             lay_apply(plan, kind, columns, query.line_width(right), one, two)
