@@ -1,0 +1,5 @@
+pub mod Singles
+pub mod Operating
+pub mod Runnings
+pub mod Settling
+pub mod Outcomes

@@ -1,0 +1,5 @@
+pub mod Kinds
+pub mod Moments
+pub mod Laying
+pub mod Running
+pub mod Examples
