@@ -6,7 +6,7 @@ use lines::line::Line;
 use lines::line::Side;
 use std::test::*;
 
-// Kits whose column 1 equals their count of shipments.
+// Kits that have as many shipments as they should.
 #[test]
 fn kits_by_their_count() -> Result<(), Fail> {
     let shipped = Line::Compare {

@@ -1,0 +1,7 @@
+// Flat plans run over kits and shipments: rows, every cell, and the exact need of cells. All expected values are worked out by hand.
+#[cfg(test)]
+mod kinds;
+#[cfg(test)]
+mod limits;
+#[cfg(test)]
+mod outcomes;
