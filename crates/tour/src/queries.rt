@@ -1,8 +1,11 @@
-// Queries: lines, the check, and the flat plan.
+// Queries: lines, the check, the flat plan and its run.
 use crate::words::answers::refused;
 use crate::words::written::Written;
 use crate::words::written::WrittenDisplay;
+use cells::cell::Cell;
+use cells::cell::CellDisplay;
 use cells::sign::Sign;
+use evaluate::run::run;
 use lines::line::Aggregate;
 use lines::line::Line;
 use lines::line::Side;
@@ -56,10 +59,45 @@ fn list(rt: &LibcRuntime, lines: &[Line]) -> io::Result<()> {
     Ok(())
 }
 
-fn unnested(rt: &LibcRuntime, query: &Query) -> io::Result<()> {
+// Rows as they lie in lent cells.
+fn show_rows(rt: &LibcRuntime, cells: &[Cell], rows: usize, width: usize) -> io::Result<()> {
+    let mut place = 0usize;
+    for _ in 0..rows {
+        print!(rt, "  (")?;
+        for column in 0..width {
+            if column > 0 {
+                print!(rt, ", ")?;
+            }
+            let cell = cells.get(place).copied().unwrap_or(Cell::Null);
+            print!(rt, "{cell}")?;
+            place = place.saturating_add(1);
+        }
+        println!(rt, ")")?;
+    }
+    Ok(())
+}
+
+fn answered<S: Stock>(rt: &LibcRuntime, plan: &FlatPlan, stock: &S) -> io::Result<()> {
+    let mut few = [Cell::Null; 114];
+    println!(rt, "Run with 114 lent cells, it lacks one:")?;
+    if let Err(refusal) = run(stock, plan, &mut few) {
+        refused(rt, refusal)?;
+    }
+    let mut cells = [Cell::Null; 115];
+    println!(rt, "Run with 115, it answers with the kits:")?;
+    match run(stock, plan, &mut cells) {
+        Ok((rows, width)) => show_rows(rt, &cells, rows, width),
+        Err(refusal) => refused(rt, refusal),
+    }
+}
+
+fn unnested<S: Stock>(rt: &LibcRuntime, query: &Query, stock: &S) -> io::Result<()> {
     println!(rt, "Its flat plan asks for all kits at once:")?;
     match FlatPlan::unnest(query) {
-        Ok(plan) => list(rt, plan.lines()),
+        Ok(plan) => {
+            list(rt, plan.lines())?;
+            answered(rt, &plan, stock)
+        }
         Err(refusal) => refused(rt, refusal),
     }
 }
@@ -70,7 +108,7 @@ fn checked<S: Stock>(rt: &LibcRuntime, lines: &[Line], stock: &S) -> io::Result<
             let size = query.size();
             let width = query.width();
             println!(rt, "  accepted: {size} lines, {width} columns")?;
-            unnested(rt, &query)
+            unnested(rt, &query, stock)
         }
         Err(refusal) => refused(rt, refusal),
     }
