@@ -1,4 +1,4 @@
--- How often a row stands in the lists that distinctRows, diffRows and kept-by give.
+-- How often a row stands in the lists that Distinct, Diff and a selection give.
 use mathlib.Core.Path.{_≡_, refl, sym, _∙_, ap}
 use mathlib.Core.Bool.{Bool, true, false, cond, _&&_, _||_, not}
 use mathlib.Core.List.{List, [], _∷_, _++_, map}

@@ -16,7 +16,8 @@ use Rattle.lines.specs.declared.line.Shape.{Shape}
 use Rattle.lines.specs.declared.line.Shape.the-variants.{Leaf, One, Two, Tested, Inner, Part, Parts}
 use Rattle.unnest.specs.Emit.{emit, outermost, flat-lines}
 use Rattle.unnest.specs.Flat.{flat, top}
-use Rattle.unnest.specs.Plans.{Is-rows, Is-condition, Has-rows, Has-condition, Fed, Runnable, Plan-from, is-apply, Rows-below, Condition-below, Reads, Well-formed}
+use Rattle.unnest.specs.Plans.{Runnable, is-apply, Rows-below, Condition-below, Reads, Well-formed}
+use Rattle.unnest.proofs.Feeding.{Is-rows, Is-condition, Has-rows, Has-condition, Fed, Plan-from}
 use Rattle.unnest.proofs.Growing.{grow-length, front-length, front-at, build-lower, node-is}
 use Rattle.unnest.proofs.Emits.{Step, emits, unnested}
 use Rattle.unnest.proofs.Flats.{Flat, flats}

@@ -22,7 +22,8 @@ use Rattle.lines.specs.declared.line.Line.the-variants.{Table as TableL, Unit a
 use Rattle.lines.specs.declared.line.Side.the-variants.{Column, Constant}
 use Rattle.unnest.specs.Emit.{Place, outermost, inside, breadth, chain, emit-condition, emit, spread-lines, total-lines, cell-line, outer-lines, some-lines, all-lines, quant-lines}
 use Rattle.unnest.specs.Flat.{under, cols, flat, spread, totalled, with-cell, flat-outer, flat-quant, flat-some, flat-all}
-use Rattle.unnest.specs.Plans.{Plain, Is-rows, Is-condition, Has-rows, Has-condition, Fed, Runnable, Plan-from}
+use Rattle.unnest.specs.Plans.{Plain, Runnable}
+use Rattle.unnest.proofs.Feeding.{Is-rows, Is-condition, Has-rows, Has-condition, Fed, Plan-from}
 use Rattle.unnest.proofs.Growing.{grow-append, grow-length}
 use Rattle.unnest.proofs.Emits.{cell-builds, grow-chain, Step, onward, reach, one-line, step-is, at-old, at-new, at-first, ctx, Ready, breadth-is, ctx-kept, ready-kept, emits-condition, emits}
 use Rattle.unnest.proofs.Flats.{Domain, Stands, Flat, flats, domain, cols-is}

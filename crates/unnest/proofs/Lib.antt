@@ -10,6 +10,7 @@ pub mod Flats
 pub mod Goods
 pub mod Agree
 pub mod Growing
+pub mod Feeding
 pub mod Emits
 pub mod Lays
 pub mod Indexed

@@ -18,6 +18,7 @@ use Rattle.lines.specs.Marks.{Marks, own, Side-in, Cond-in, Fold-in, Sound}
 use Rattle.lines.specs.Shapes.{shape-of, line-at}
 use Rattle.lines.specs.Trees.{Cond, compare, is-null, not-of, unknown-of, and-of, or-of, Tree, table, unit, select, keep, extend, extend-truth, pad, match, semi-match, anti-match, union, diff, distinct, group, total, cross, outer, semi, anti, some, all, width}
 use Rattle.unnest.specs.declared.plan.FlatPlan.{FlatPlan}
+use Rattle.unnest.specs.FlatPlans.{plan-lines, plan-widths}
 use Rattle.unnest.specs.Plans.{Plain, Rows-below, Condition-below, Reads, Runnable, Well-formed}
 
 side-prop : (n : ℕ) (a : Side) → (x y : Side-in n a) → x ≡ y
@@ -108,5 +109,9 @@ well-formed-prop ws ls x y = λ j. record {
   sound = λ i h. runnable-prop ws (build (grow [] ls) (line-at ls i)) (x .sound i h) (y .sound i h) j;
 }
 
-pub untruncated : (ws : List ℕ) (ls : List Line) → ∥ Well-formed ws ls ∥₁ → Well-formed ws ls
+untruncated : (ws : List ℕ) (ls : List Line) → ∥ Well-formed ws ls ∥₁ → Well-formed ws ls
 untruncated ws ls t = ∥∥₁-elim t (well-formed-prop ws ls) (λ x. x)
+
+-- what every flat plan brings for its evaluator
+pub plan-formed : (p : FlatPlan) → Well-formed (plan-widths p) (plan-lines p)
+plan-formed p = untruncated (plan-widths p) (plan-lines p) (p .formed)

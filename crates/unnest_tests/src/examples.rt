@@ -6,7 +6,7 @@ use lines::line::Line;
 use lines::line::Side;
 use std::test::*;
 
-// Kits that have as many shipments as they should.
+// The kits with as many shipments as column 1 says.
 #[test]
 fn kits_by_their_count() -> Result<(), Fail> {
     let shipped = Line::Compare {
