@@ -1,0 +1,10 @@
+pub mod Model
+pub mod Checks
+pub mod Plans
+pub mod Requests
+pub mod Tracks
+pub mod Replies
+pub mod Agrees
+pub mod Past
+pub mod Law
+pub mod Examples

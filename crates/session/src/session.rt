@@ -1,0 +1,91 @@
+// A session and its calls.
+ghost use mathlib.Core.Path.{_≡_};
+ghost use Rattle.session.specs.Model.{opened};
+ghost use Rattle.session.specs.Requests.{lay, unnest, add, withdraw, clear};
+ghost use Rattle.session.specs.Agrees.{Agrees, Steps, Lays, Unnests, Adds, Withdraws, Clears};
+ghost use Rattle.session.specs.Replies.{told, told-size};
+ghost use Rattle.session.specs.declared.calls.Answer.the-variants.{Count};
+use cells::cell::Cell;
+use lines::line::Line;
+use movements::movements::Movements;
+use movements::movements::MovementsStock;
+use query::query::Query;
+use stock::refusal::Refusal;
+use stock::stock::Stock;
+use unnest::plan::FlatPlan;
+
+#[derive(Drop)]
+pub(crate) struct Session<S> {
+    pub(crate) layer: Movements<S>,
+    pub(crate) query: Option<Query>,
+    pub(crate) plan: Option<FlatPlan>,
+}
+
+impl<S: Stock> Session<S> {
+    // No query and no movement yet.
+    pub(crate) fn open(stock: S) -> Session<S>
+        ensures same { λ r. ⌜ r .layer .below ≡ stock ⌝ }
+        ensures agrees { λ r. ⌜ Agrees (S·Stock .tables) r (opened (S·Stock .tables stock)) ⌝ }
+    {
+        Session {
+            layer: Movements::over(stock),
+            query: None,
+            plan: None,
+        }
+    }
+
+    // Checks lines against the tables; accepted, they are the query. Answers the lines and the width.
+    pub(crate) fn lay(&mut self, lines: &[Line]) -> Result<(usize, usize), Refusal>
+        ensures made { λ r. ⌜ Lays (S·Stock .tables) (now (self .entry)) (now (self .exit)) (now (lines .entry)) r ⌝ }
+        ensures steps { λ r. ⌜ Steps (S·Stock .tables) (now (self .entry)) (now (self .exit)) (lay (now (lines .entry))) (told-size r) ⌝ }
+        ensures same { λ _. ⌜ now (self .exit) .layer ≡ now (self .entry) .layer ⌝ }
+    {
+        let query = Query::check(lines, &self.layer)?;
+        let answer = (query.size(), query.width());
+        self.query = Some(query);
+        self.plan = None;
+        Ok(answer)
+    }
+
+    // Sets the flat plan of the query that stands and answers its lines.
+    pub(crate) fn unnest(&mut self) -> Result<usize, Refusal>
+        ensures made { λ r. ⌜ Unnests (now (self .entry)) (now (self .exit)) r ⌝ }
+        ensures steps { λ r. ⌜ Steps (S·Stock .tables) (now (self .entry)) (now (self .exit)) unnest (told r) ⌝ }
+        ensures same { λ _. ⌜ now (self .exit) .layer ≡ now (self .entry) .layer ⌝ }
+    {
+        let Some(query) = &self.query else {
+            return Err(Refusal::NothingStands);
+        };
+        let plan = FlatPlan::unnest(query)?;
+        let count = plan.lines().len();
+        self.plan = Some(plan);
+        Ok(count)
+    }
+
+    // Puts a row at the end of a table and answers how many rows the table then shows.
+    pub(crate) fn add(&mut self, table: usize, row: &[Cell]) -> Result<usize, Refusal>
+        ensures made { λ r. ⌜ Adds (S·Stock .tables) (now (self .entry) .layer) (now (self .exit) .layer) table (now (row .entry)) r ⌝ }
+        ensures steps { λ r. ⌜ Steps (S·Stock .tables) (now (self .entry)) (now (self .exit)) (add table (now (row .entry))) (told r) ⌝ }
+        ensures same { λ _. ⌜ now (self .exit) .layer .below ≡ now (self .entry) .layer .below ⌝ }
+    {
+        self.layer.add(table, row)
+    }
+
+    // Takes out the row shown at a place and answers how many rows the table then shows.
+    pub(crate) fn withdraw(&mut self, table: usize, place: usize) -> Result<usize, Refusal>
+        ensures made { λ r. ⌜ Withdraws (S·Stock .tables) (now (self .entry) .layer) (now (self .exit) .layer) table place r ⌝ }
+        ensures steps { λ r. ⌜ Steps (S·Stock .tables) (now (self .entry)) (now (self .exit)) (withdraw table place) (told r) ⌝ }
+        ensures same { λ _. ⌜ now (self .exit) .layer .below ≡ now (self .entry) .layer .below ⌝ }
+    {
+        self.layer.withdraw(table, place)
+    }
+
+    // Shows the rows below again.
+    pub(crate) fn clear(&mut self)
+        ensures made { λ _. ⌜ Clears (S·Stock .tables) (now (self .entry) .layer) (now (self .exit) .layer) ⌝ }
+        ensures steps { λ _. ⌜ Steps (S·Stock .tables) (now (self .entry)) (now (self .exit)) clear (Count 0) ⌝ }
+        ensures same { λ _. ⌜ now (self .exit) .layer .below ≡ now (self .entry) .layer .below ⌝ }
+    {
+        self.layer.clear();
+    }
+}
