@@ -25,7 +25,7 @@ grow-keeps o [] i h = refl
 grow-keeps o (l ∷ a) i h =
     grow-keeps (o ++ (build o l ∷ [])) a i (omega (arith, length-push o (build o l))) ∙ getD-append-left o (build o l ∷ []) (rows-node unit) i h
 
-build-lower : (i : ℕ) (o p : List Node) (l : Line) → Lower i l → ((a : ℕ) → a < i → at o a ≡ at p a) → build o l ≡ build p l
+pub build-lower : (i : ℕ) (o p : List Node) (l : Line) → Lower i l → ((a : ℕ) → a < i → at o a ≡ at p a) → build o l ≡ build p l
 unfolding build
 build-lower i o p (TableL t) g h = refl
 build-lower i o p UnitL g h = refl
@@ -56,10 +56,10 @@ build-lower i o p (And a b) g h = rw (h a (g .0), h b (g .1))
 build-lower i o p (Or a b) g h = rw (h a (g .0), h b (g .1))
 
 module _ (ls : List Line) (i : ℕ) (h : i ≤ length ls) where
-  front-length : length (grow [] (take i ls)) ≡ i
+  pub front-length : length (grow [] (take i ls)) ≡ i
   front-length = grow-length [] (take i ls) ∙ zero-add (length (take i ls)) ∙ length-take-le i ls h
 
-  front-at : (a : ℕ) → a < i → at (grow [] (take i ls)) a ≡ at (grow [] ls) a
+  pub front-at : (a : ℕ) → a < i → at (grow [] (take i ls)) a ≡ at (grow [] ls) a
   front-at a k =
       sym (ap (λ v. at (grow [] v) a) (sym (take-append-drop i ls)) ∙ ap (λ v. at v a) (grow-append [] (take i ls) (drop i ls))
       ∙ grow-keeps (grow [] (take i ls)) (drop i ls) a (omega (arith, front-length)))

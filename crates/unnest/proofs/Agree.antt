@@ -22,10 +22,10 @@ use Rattle.lines.specs.declared.line.Aggregate.{Aggregate}
 use Rattle.stock.specs.Tables.{Table, widths}
 use Rattle.unnest.proofs.Goods.{Good}
 use Rattle.unnest.specs.Flat.{Ctx, top, under, cols, spread, totalled, with-cell, flat}
-use Rattle.unnest.proofs.Weights.{W, W-cong, W-map, W-joined, count-W, Bag, same-from}
+use Rattle.lines.proofs.Weights.{W, W-cong, W-map, W-joined, count-W, Bag, same-from}
 use Rattle.unnest.proofs.Lifts.{Dom, Lifted, lift-distinct, lift-diff}
 use Rattle.unnest.proofs.Raise.{take-under, drop-under, kept-all, lift-map, lift-map′, lift-kept, lift-union, lift-match, lift-semi, lift-anti}
-use Rattle.unnest.proofs.Folds.{folded-bag}
+use Rattle.lines.proofs.Folds.{folded-bag}
 use Rattle.unnest.proofs.Groups.{lift-group, lift-total}
 use Rattle.unnest.proofs.Widths.{Fits, Wide, wide, wide-flat}
 use Rattle.unnest.proofs.Applies.{dom-distinct, lift-cross, lift-exists, lift-lacks, lift-outer, lift-three, passes, some-cong, some-is, all-is, unknown-holds, compared}

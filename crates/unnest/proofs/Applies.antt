@@ -19,8 +19,8 @@ use Rattle.cells.specs.declared.truth.Truth.{Truth}
 use Rattle.cells.specs.declared.truth.Truth.the-variants.{True, False, Unknown}
 use Rattle.lines.specs.Ops.{count, some-of, distinct-rows, alike, match-rows, semi-rows, anti-rows}
 use Rattle.lines.specs.Trees.{empty, outer-rows, ors, ands, against}
-use Rattle.unnest.proofs.Weights.{W, W-all, W-cong, W-append, W-map, W-kept, W-joined, W-plus, positive, positive-from, positive-true, some-count, count-here}
-use Rattle.unnest.proofs.Counts.{one, count-distinct}
+use Rattle.lines.proofs.Weights.{W, W-all, W-cong, W-append, W-map, W-kept, W-joined, W-plus, positive, positive-from, positive-true, some-count, count-here}
+use Rattle.lines.proofs.Counts.{one, count-distinct}
 use Rattle.unnest.proofs.Lifts.{Dom, Lifted, both, pick, some-pick}
 use Rattle.unnest.proofs.Raise.{alike-at, some-any, lift-kept}
 use Rattle.unnest.proofs.Widths.{Wide, wide-distinct}

@@ -12,10 +12,11 @@ use Rattle.cells.specs.Cells.{Row, same-row}
 use Rattle.lines.specs.Ops.{count, some-of, distinct-rows, alike, anti-rows, folded, group-rows, none-of}
 use Rattle.lines.specs.Trees.{empty}
 use Rattle.lines.specs.declared.line.Aggregate.{Aggregate}
-use Rattle.unnest.proofs.Weights.{W, W-all, W-cong, W-append, W-map, W-kept, W-plus, same-split, Bag}
+use Rattle.lines.proofs.Weights.{W, W-all, W-cong, W-append, W-map, W-kept, W-plus, Bag}
+use Rattle.lines.proofs.Sameness.{same-split}
 use Rattle.unnest.proofs.Lifts.{Dom, Lifted, in-dom, pick, some-pick, lift-distinct}
 use Rattle.unnest.proofs.Raise.{take-under, alike-at, kept-all, some-any, lift-map′}
-use Rattle.unnest.proofs.Folds.{folded-bag}
+use Rattle.lines.proofs.Folds.{folded-bag}
 
 nils : (xs : List Row) → kept-by (λ z. not (same-row [] z)) (distinct-rows (map (take 0) xs)) ≡ []
 nils [] = refl

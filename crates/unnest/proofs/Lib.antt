@@ -1,15 +1,11 @@
-pub mod Weights
-pub mod Counts
 pub mod Lifts
 pub mod Raise
-pub mod Folds
 pub mod Groups
 pub mod Widths
 pub mod Applies
 pub mod Flats
 pub mod Goods
 pub mod Agree
-pub mod Growing
 pub mod Feeding
 pub mod Emits
 pub mod Lays

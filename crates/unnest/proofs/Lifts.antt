@@ -11,8 +11,9 @@ use Rattle.std.specs.shelf.Lists.{kept-by, joined, All}
 use Rattle.std.proofs.shelf.Lists.{append-assoc, take-at, drop-at, length-append}
 use Rattle.cells.specs.Cells.{Row, same-row, same-cell}
 use Rattle.lines.specs.Ops.{count, some-of, distinct-rows, diff-rows}
-use Rattle.unnest.proofs.Counts.{one, count-distinct, count-diff, count-kept}
-use Rattle.unnest.proofs.Weights.{W, W-all, W-cong, W-append, W-map, W-kept, W-joined, W-plus, W-zero, W-cond, cond-and, count-W, all-of, positive, positive-false, some-count, bag-from, some-W, same-eq, same-refl, same-split}
+use Rattle.lines.proofs.Counts.{one, count-distinct, count-diff, count-kept}
+use Rattle.lines.proofs.Weights.{W, W-all, W-cong, W-append, W-map, W-kept, W-joined, W-plus, W-zero, W-cond, cond-and, count-W, all-of, positive, positive-false, some-count, bag-from, some-W}
+use Rattle.lines.proofs.Sameness.{same-eq, same-refl, same-split}
 
 -- the domain: each row once, all of c columns
 pub record Dom (c : ℕ) (D : List Row) : Type 0 where

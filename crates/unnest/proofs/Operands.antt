@@ -23,7 +23,7 @@ use Rattle.unnest.specs.Kinds.{own-count, own-lines, apply-own, rows-of, wide-
 use Rattle.unnest.specs.Rooms.{Emitted, Too-long, Puts}
 use Rattle.unnest.proofs.Adding.{emit-by, count-small}
 use Rattle.unnest.proofs.Flats.{short, own-length}
-use Rattle.unnest.proofs.Growing.{node-is}
+use Rattle.query.proofs.Growing.{node-is}
 use Rattle.unnest.proofs.Puts.{then-puts, chained, twice, mid-length}
 
 -- what soundness of a line says of its operands

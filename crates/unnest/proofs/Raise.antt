@@ -12,7 +12,8 @@ use Rattle.std.proofs.shelf.Elements.{all-weaker}
 use Rattle.cells.specs.Cells.{Row, same-row}
 use Rattle.lines.specs.Ops.{count, some-of, alike, match-rows, semi-rows, anti-rows}
 use Rattle.lines.specs.Trees.{empty}
-use Rattle.unnest.proofs.Weights.{W, W-all, W-cong, W-append, W-map, W-kept, W-joined, W-plus, W-zero, W-cond, cond-and, count-W, all-of, same-eq, same-refl, same-split, Bag}
+use Rattle.lines.proofs.Weights.{W, W-all, W-cong, W-append, W-map, W-kept, W-joined, W-plus, W-zero, W-cond, cond-and, count-W, all-of, Bag}
+use Rattle.lines.proofs.Sameness.{same-eq, same-refl, same-split}
 use Rattle.unnest.proofs.Lifts.{Dom, Lifted, in-dom, core, core′, pick, some-pick, lift-distinct}
 
 pub take-under : (d l : Row) (c n : ℕ) → length d ≡ c → take (c + n) (d ++ l) ≡ d ++ take n l

@@ -17,7 +17,7 @@ use Rattle.lines.specs.Ops.{some-of, distinct-rows, diff-rows, without, keep-ro
 use Rattle.lines.specs.Trees.{Tree, table, unit, select, keep, extend, extend-truth, pad, match, semi-match, anti-match, union, diff, distinct, group, total, cross, outer, semi, anti, some, all, width, rows, outer-rows}
 use Rattle.stock.specs.Tables.{Table, widths, rows-at, Lawful, Lawful-table, Lawful-row}
 use Rattle.unnest.proofs.Goods.{Good}
-use Rattle.unnest.proofs.Weights.{W, W-zero, W-cong}
+use Rattle.lines.proofs.Weights.{W, W-zero, W-cong}
 use Rattle.unnest.proofs.Lifts.{Dom, Lifted, core}
 
 -- a list of rows of one width
