@@ -7,7 +7,7 @@ use lib.ListN.{length}
 use Rattle.std.proofs.shelf.Lists.{length-append}
 use Rattle.lines.specs.Marks.{Marks, own, Sound}
 use Rattle.lines.specs.Trees.{Tree, table, unit, select, keep, extend, extend-truth, pad, match, semi-match, anti-match, union, diff, distinct, group, total, cross, outer, semi, anti, some, all, width}
-use Rattle.unnest.proofs.Flats.{own-length}
+use Rattle.query.proofs.Soundness.{own-length}
 
 -- what the agreement asks of widths, of a line in a context of c columns
 unfoldable pub Good : List ℕ → ℕ → Tree → Type 0

@@ -22,7 +22,7 @@ use Rattle.unnest.specs.Emit.{Place, inside, breadth, chain, emit, emit-condit
 use Rattle.unnest.specs.Kinds.{own-count, own-lines, apply-own, rows-of, wide-of, lines-by, In-context}
 use Rattle.unnest.specs.Rooms.{Emitted, Too-long, Puts}
 use Rattle.unnest.proofs.Adding.{emit-by, count-small}
-use Rattle.unnest.proofs.Flats.{short, own-length}
+use Rattle.query.proofs.Soundness.{short, own-length}
 use Rattle.query.proofs.Growing.{node-is}
 use Rattle.unnest.proofs.Puts.{then-puts, chained, twice, mid-length}
 
