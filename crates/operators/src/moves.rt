@@ -3,8 +3,8 @@ ghost use mathlib.Core.Path.{_≡_};
 ghost use mathlib.Core.List.{[], _∷_};
 ghost use mathlib.Core.Logic.{_⊎_};
 ghost use Prim.Native.Nat.{ℕ, _+_, _<_, _≤_};
-ghost use lib.ListN.{length, replicate};
-ghost use Rattle.cells.specs.Cells.{same-row};
+ghost use lib.ListN.{length, getD, replicate};
+ghost use Rattle.cells.specs.Cells.{same-cell, same-row};
 ghost use Rattle.cells.specs.declared.cell.Cell.the-variants.{Null};
 ghost use Rattle.operators.specs.Places.{row-at};
 ghost use Rattle.operators.specs.Laid.{Put};
@@ -41,6 +41,15 @@ pub(crate) fn put(cells: &mut [Cell], to: usize, cell: Cell)
     cells[to] = cell;
 }
 
+// Whether the cells at `a` and at `b` are the same.
+fn same_at(cells: &[Cell], a: usize, b: usize) -> bool
+    requires first { ⌜ a < length (now cells) ⌝ }
+    requires second { ⌜ b < length (now cells) ⌝ }
+    ensures { λ r. ⌜ r ≡ same-cell (getD (now (cells .entry)) a Null) (getD (now (cells .entry)) b Null) ⌝ }
+{
+    cells[a].same(cells[b])
+}
+
 // Whether the n cells at `a` and at `b` are the same.
 pub(crate) fn same_cells(cells: &[Cell], a: usize, b: usize, n: usize) -> bool
     requires first { ⌜ a + n ≤ length (now cells) ⌝ }
@@ -48,7 +57,7 @@ pub(crate) fn same_cells(cells: &[Cell], a: usize, b: usize, n: usize) -> bool
     ensures { λ r. ⌜ r ≡ same-row (row-at (now (cells .entry)) a n) (row-at (now (cells .entry)) b n) ⌝ }
 {
     for i in 0..n {
-        if !cells[a + i].same(cells[b + i]) {
+        if !same_at(cells, a + i, b + i) {
             return false;
         }
     }
