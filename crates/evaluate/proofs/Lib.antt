@@ -3,3 +3,9 @@ pub mod Operating
 pub mod Runnings
 pub mod Settling
 pub mod Outcomes
+pub mod Applying
+pub mod Operands
+pub mod Timing
+pub mod Readings
+pub mod Gatherings
+pub mod Askings

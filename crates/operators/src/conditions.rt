@@ -13,7 +13,7 @@ use lines::line::Line;
 use lines::line::Side;
 
 // A column of the long row; NULL past its end.
-pub(crate) fn long_cell(context: &[Cell], row: &[Cell], column: usize) -> Cell
+pub fn long_cell(context: &[Cell], row: &[Cell], column: usize) -> Cell
     ensures { λ r. ⌜ r ≡ getD (now (context .entry) ++ now (row .entry)) column Null ⌝ }
 {
     if column < context.len() {

@@ -5,4 +5,5 @@ pub mod Steps
 pub mod Tests
 pub mod Verdicts
 pub mod Readings
+pub mod Evaluations
 pub mod Replays

@@ -8,8 +8,8 @@ use Rattle.std.proofs.shelf.Lists.{take-more, take-more-set, map-push, drop-set
 use Rattle.cells.specs.declared.cell.Cell.{Cell}
 use Rattle.stock.specs.Tables.{Table}
 use Rattle.session.specs.Model.{Model}
-use Rattle.session.specs.Requests.{Request, Rules, step}
-use Rattle.session.specs.Replies.{Reply, answer-due, cells-due}
+use Rattle.session.specs.Requests.{Request, step}
+use Rattle.session.specs.Replies.{reply, answer-due, cells-due}
 use Rattle.session.specs.Agrees.{Steps, Makes}
 use Rattle.session.specs.Law.{Replied, Each-replied}
 use Rattle.session.specs.Past.{request-of, lent, reply-of, after}
@@ -18,20 +18,24 @@ use Rattle.session.specs.declared.calls.Event.{Event}
 use Rattle.session.specs.declared.session.Session.{Session}
 use Rattle.session.proofs.Readings.{each-replied-push}
 
-abbrev pub reply : Answer → List Cell → Reply
-reply a cells = record { answer = a; cells = cells }
-
 -- a call that leaves the lent cells alone, where q is what it was made of and b what was told of it
 pub makes : {X : Type 0} (tables : X → List Table) (s n : Session X) (q r : Request) (b a : Answer) (cells : List Cell)
-    → q ≡ r → b ≡ a → ((rules : Rules) (m : Model) → cells ≡ cells-due rules m r cells) → Steps tables s n r a → Makes tables s n q cells (reply b cells)
+    → q ≡ r → b ≡ a → ((m : Model) → cells ≡ cells-due m r cells) → Steps tables s n r a → Makes tables s n q cells (reply b cells)
 makes tables s n q r b a cells e f still h =
     subst (λ x. Makes tables s n x cells (reply b cells)) (sym e)
-    (subst (λ x. Makes tables s n r cells (reply x cells)) (sym f) (λ rules m ag. let k = h rules m ag in (k .0, ap (λ x. reply x cells) (k .1) ∙ ap (reply (answer-due rules m r)) (still rules m))))
+    (subst (λ x. Makes tables s n r cells (reply x cells)) (sym f) (λ m ag. let k = h m ag in (k .0, ap (λ x. reply x cells) (k .1) ∙ ap (reply (answer-due m r)) (still m))))
 
-module _ (rules : Rules) where
-  after-push : (m : Model) (es : List Event) (e : Event) → after rules m (es ++ e ∷ []) ≡ step rules (after rules m es) (request-of e)
-  after-push m [] e = refl
-  after-push m (x ∷ es) e = after-push (step rules m (request-of x)) es e
+-- a call that writes into lent cells, which it found as `now` and left as `done`
+pub makes-read : {X : Type 0} (tables : X → List Table) (s n : Session X) (q r : Request) (now cells done items : List Cell) (b a : Answer)
+    → q ≡ r → now ≡ cells → items ≡ done → b ≡ a → Makes tables s n r now (reply a done) → Makes tables s n q cells (reply b items)
+makes-read tables s n q r now cells done items b a e f g k h =
+    subst (λ x. Makes tables s n x cells (reply b items)) (sym e)
+    (subst (λ x. Makes tables s n r x (reply b items)) f
+    (subst (λ x. Makes tables s n r now (reply b x)) (sym g) (subst (λ x. Makes tables s n r now (reply x done)) (sym k) h)))
+
+after-push : (m : Model) (es : List Event) (e : Event) → after m (es ++ e ∷ []) ≡ step (after m es) (request-of e)
+after-push m [] e = refl
+after-push m (x ∷ es) e = after-push (step m (request-of x)) es e
 
 -- past ps, of which qs has made the first i calls; the next is x and becomes y
 module _ (m : Model) (ps qs : List Event) (i : ℕ) (x y : Event) (l : i < length ps) (same : length qs ≡ length ps) (rest : drop i qs ≡ drop i ps) (is : x ≡ getD qs i x) where
@@ -43,15 +47,15 @@ module _ (m : Model) (ps qs : List Event) (i : ℕ) (x y : Event) (l : i < lengt
   more : take (i + 1) ps ≡ take i ps ++ x ∷ []
   more = take-more ps i x l ∙ ap (λ k. take i ps ++ k ∷ []) (sym here)
 
-  pub after-more : (rules : Rules) → step rules (after rules m (take i ps)) (request-of x) ≡ after rules m (take (i + 1) ps)
-  after-more rules = sym (ap (after rules m) more ∙ after-push rules m (take i ps) x)
+  pub after-more : step (after m (take i ps)) (request-of x) ≡ after m (take (i + 1) ps)
+  after-more = sym (ap (after m) more ∙ after-push m (take i ps) x)
 
-  pub replied-more : (rules : Rules) → Each-replied rules m (take i ps) (take i qs) → Replied rules (after rules m (take i ps)) (request-of x) (lent x) (reply-of y)
-      → Each-replied rules m (take (i + 1) ps) (take (i + 1) (set qs i y))
-  replied-more rules h e =
+  pub replied-more : Each-replied m (take i ps) (take i qs) → Replied (after m (take i ps)) (request-of x) (lent x) (reply-of y)
+      → Each-replied m (take (i + 1) ps) (take (i + 1) (set qs i y))
+  replied-more h e =
       let lq : i < length qs = omega arith in
-      subst (λ k. Each-replied rules m k (take (i + 1) (set qs i y))) (sym more)
-      (subst (λ k. Each-replied rules m (take i ps ++ x ∷ []) k) (sym (take-more-set qs i y lq)) (each-replied-push rules m (take i ps) (take i qs) x y h e))
+      subst (λ k. Each-replied m k (take (i + 1) (set qs i y))) (sym more)
+      (subst (λ k. Each-replied m (take i ps ++ x ∷ []) k) (sym (take-more-set qs i y lq)) (each-replied-push m (take i ps) (take i qs) x y h e))
 
   pub requests-more : map request-of (take i qs) ≡ map request-of (take i ps) → request-of y ≡ request-of x → map request-of (take (i + 1) (set qs i y)) ≡ map request-of (take (i + 1) ps)
   requests-more h e =

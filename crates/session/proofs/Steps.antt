@@ -22,7 +22,7 @@ use Rattle.movements.specs.Moving.{moved-lawful}
 use Rattle.movements.specs.Shown.{items-of, shown, rows-remaining, Uncut, Put, Taken}
 use Rattle.movements.specs.declared.movements.Movements.{Movements}
 use Rattle.session.specs.Model.{Model, Model-table, open-table, tables-of, shown-tables, with-added, with-taken, cleared}
-use Rattle.session.specs.Requests.{Request, lay, unnest, add, withdraw, clear, Rules, cause, changed, step, unless, add-refusal, withdraw-refusal, unnest-refusal, flat-of, with-tables}
+use Rattle.session.specs.Requests.{Request, lay, unnest, add, withdraw, clear, cause, changed, step, unless, add-refusal, withdraw-refusal, unnest-refusal, flat-of, with-tables}
 use Rattle.session.specs.Replies.{told, accepted, answer-due, lines-of as count-lines}
 use Rattle.session.specs.Tracks.{Parts-track, Tracks}
 use Rattle.session.specs.Agrees.{Agrees, Steps, Unnests, Unnested-by, unnest-cause, Adds, Withdraws, with-layer, with-plan, with-query}
@@ -44,22 +44,22 @@ use Rattle.unnest.specs.declared.plan.FlatPlan.{FlatPlan}
 use Rattle.movements.specs.declared.moved.Added.{Added}
 use Rattle.movements.specs.declared.moved.Hidden.{Hidden}
 use Rattle.session.specs.Checks.{lay-refusal}
-use Rattle.session.specs.Plans.{standing-lines, Fits, Plan-law}
+use Rattle.session.specs.Plans.{standing-lines, Fits, Plan-fits, Plan-law}
 use Rattle.session.proofs.Verdicts.{accepted-none, refused-some}
 use Rattle.session.proofs.Movement.{Whole, count-of, parts-open, parts-show, parts-cleared, parts-add, parts-taken, add-refusal-is, withdraw-refusal-is}
 
 -- any call: the model refuses it or makes it
-module _ {X : Type 0} (tables : X → List Table) (s n : Session X) (rules : Rules) (m : Model) (r : Request) where
-  pub refused : (e : Refusal) → cause rules m r ≡ Some e → n ≡ s → Agrees tables s m → Agrees tables n (step rules m r) × (Refused e ≡ answer-due rules m r)
+module _ {X : Type 0} (tables : X → List Table) (s n : Session X) (m : Model) (r : Request) where
+  pub refused : (e : Refusal) → cause m r ≡ Some e → n ≡ s → Agrees tables s m → Agrees tables n (step m r) × (Refused e ≡ answer-due m r)
   refused e c same ag = (
-    subst (λ x. Agrees tables n (unless x (λ _. m) (changed rules m r))) (sym c) (subst (λ x. Agrees tables x m) (sym same) ag),
-    sym (ap (λ x. unless x (λ y. Refused y) (accepted rules m r)) c),
+    subst (λ x. Agrees tables n (unless x (λ _. m) (changed m r))) (sym c) (subst (λ x. Agrees tables x m) (sym same) ag),
+    sym (ap (λ x. unless x (λ y. Refused y) (accepted m r)) c),
   )
 
-  pub made : (a : Answer) → cause rules m r ≡ None → Agrees tables n (changed rules m r) → a ≡ accepted rules m r → Agrees tables n (step rules m r) × (a ≡ answer-due rules m r)
+  pub made : (a : Answer) → cause m r ≡ None → Agrees tables n (changed m r) → a ≡ accepted m r → Agrees tables n (step m r) × (a ≡ answer-due m r)
   made a c ag e = (
-    subst (λ x. Agrees tables n (unless x (λ _. m) (changed rules m r))) (sym c) ag,
-    e ∙ sym (ap (λ x. unless x (λ y. Refused y) (accepted rules m r)) c),
+    subst (λ x. Agrees tables n (unless x (λ _. m) (changed m r))) (sym c) ag,
+    e ∙ sym (ap (λ x. unless x (λ y. Refused y) (accepted m r)) c),
   )
 
 -- a layer without movements
@@ -124,6 +124,7 @@ module _ {X : Type 0} (tables : X → List Table) (s : Session X) (n : Movements
     query = ag .query;
     fits = subst (λ z. Fits (widths (tables z)) (s .query)) (sym same) (ag .fits);
     plan = ag .plan;
+    plan-fits = subst (λ z. Plan-fits (widths (tables z)) (s .plan)) (sym same) (ag .plan-fits);
     law = subst (λ z. Plan-law (widths (tables z)) (m .query) (m .plan)) (sym same) (ag .law);
   }
 
@@ -131,31 +132,31 @@ module _ {X : Type 0} (tables : X → List Table) (s : Session X) (n : Movements
       → Cases a (λ _. Put t (width-of (tables (s .layer .below)) t) row (items-of (s .layer .added)) (items-of (n .added)) × (n .hidden ≡ s .layer .hidden)) (λ _. Unit {0})
       → (Uncut tables (s .layer) → Uncut tables n)
       → Steps tables s (with-layer s n) (add t row) (told a)
-  steps-add t row (Ok k) h put w rules m ag =
+  steps-add t row (Ok k) h put w m ag =
       let tr = ag .rows in
       let new = tracks-add tables (s .layer) (m .tables) tr n (h .3) t row (h .0) (put .0) (put .1) (w (tr .uncut)) in
-      made tables s (with-layer s n) rules m (add t row) (Count k) (add-refused-is tables (s .layer) (m .tables) tr t row ∙ h .0) (moved-on (with-added (m .tables) t row) m ag (h .3) new)
+      made tables s (with-layer s n) m (add t row) (Count k) (add-refused-is tables (s .layer) (m .tables) tr t row ∙ h .0) (moved-on (with-added (m .tables) t row) m ag (h .3) new)
       (ap Count (h .2 ∙ ap (λ x. rows-of x t) (sym (tracks-show tables n (with-added (m .tables) t row) new))))
-  steps-add t row (Err e) h put w rules m ag =
-      refused tables s (with-layer s n) rules m (add t row) e (add-refused-is tables (s .layer) (m .tables) (ag .rows) t row ∙ h .0) (ap (with-layer s) (h .1)) ag
+  steps-add t row (Err e) h put w m ag =
+      refused tables s (with-layer s n) m (add t row) e (add-refused-is tables (s .layer) (m .tables) (ag .rows) t row ∙ h .0) (ap (with-layer s) (h .1)) ag
 
   pub steps-withdraw : (t p : ℕ) (a : Result ℕ Refusal) → Withdraws tables (s .layer) n t p a
       → Cases a (λ _. Taken t p (rows-remaining tables (s .layer) t) (items-of (s .layer .added)) (items-of (s .layer .hidden)) (items-of (n .added)) (items-of (n .hidden))) (λ _. Unit {0})
       → (Uncut tables (s .layer) → Uncut tables n)
       → Steps tables s (with-layer s n) (withdraw t p) (told a)
-  steps-withdraw t p (Ok k) h taken w rules m ag =
+  steps-withdraw t p (Ok k) h taken w m ag =
       let tr = ag .rows in
       let c = h .cause in
       let l = row-shown (shown tables (s .layer)) (rows-remaining tables (s .layer) t) (s .layer .hidden .count) t p (c .0) in
       let new = tracks-withdraw tables (s .layer) (m .tables) tr n (c .2) t p l taken (w (tr .uncut)) in
-      made tables s (with-layer s n) rules m (withdraw t p) (Count k) (withdraw-refused-is tables (s .layer) (m .tables) tr t p ∙ c .0) (moved-on (with-taken (m .tables) t p) m ag (c .2) new)
+      made tables s (with-layer s n) m (withdraw t p) (Count k) (withdraw-refused-is tables (s .layer) (m .tables) tr t p ∙ c .0) (moved-on (with-taken (m .tables) t p) m ag (c .2) new)
       (ap Count (h .shows (tr .uncut) .1 ∙ ap (λ x. rows-of x t) (sym (tracks-show tables n (with-taken (m .tables) t p) new))))
-  steps-withdraw t p (Err e) h taken w rules m ag =
-      refused tables s (with-layer s n) rules m (withdraw t p) e (withdraw-refused-is tables (s .layer) (m .tables) (ag .rows) t p ∙ h .cause .0) (ap (with-layer s) (h .cause .1)) ag
+  steps-withdraw t p (Err e) h taken w m ag =
+      refused tables s (with-layer s n) m (withdraw t p) e (withdraw-refused-is tables (s .layer) (m .tables) (ag .rows) t p ∙ h .cause .0) (ap (with-layer s) (h .cause .1)) ag
 
   pub steps-clear : n .below ≡ s .layer .below → n .added .count ≡ 0 → n .hidden .count ≡ 0 → Uncut tables n → Steps tables s (with-layer s n) clear (Count 0)
-  steps-clear same x y w rules m ag =
-      made tables s (with-layer s n) rules m clear (Count 0) refl (moved-on (cleared (m .tables)) m ag same (tracks-clear tables (s .layer) (m .tables) (ag .rows) n same x y w)) refl
+  steps-clear same x y w m ag =
+      made tables s (with-layer s n) m clear (Count 0) refl (moved-on (cleared (m .tables)) m ag same (tracks-clear tables (s .layer) (m .tables) (ag .rows) n same x y w)) refl
 
   pub same-add : (t : ℕ) (row : Row) (a : Result ℕ Refusal) → Adds tables (s .layer) n t row a → n .below ≡ s .layer .below
   same-add t row (Ok k) h = h .3
@@ -175,23 +176,23 @@ wide tables s m ag = ap widths (tracks-show tables (s .layer) (m .tables) (ag .r
 
 pub steps-lay : {X : Type 0} (tables : X → List Table) (s : Session X) (ls : List Line) (q : Query) (a b : ℕ) → Accepted ls (widths (shown tables (s .layer))) → lines-of q ≡ ls → widths-of q ≡ widths (shown tables (s .layer))
     → a ≡ length ls → b ≡ width (widths (shown tables (s .layer))) (answer ls) → Steps tables s (with-query s q) (lay ls) (Size a b)
-steps-lay tables s ls q a b ok is ws la lb rules m ag =
+steps-lay tables s ls q a b ok is ws la lb m ag =
     let e = ap widths (tracks-show tables (s .layer) (m .tables) (ag .rows)) in
-    made tables s (with-query s q) rules m (lay ls) (Size a b) (ap (λ w. lay-refusal w ls) e ∙ accepted-none (widths (shown tables (s .layer))) ls ok)
-    (record { rows = ag .rows; query = ap Some (sym is); fits = ws ∙ sym e ∙ wide tables s m ag; plan = refl; law = tt })
+    made tables s (with-query s q) m (lay ls) (Size a b) (ap (λ w. lay-refusal w ls) e ∙ accepted-none (widths (shown tables (s .layer))) ls ok)
+    (record { rows = ag .rows; query = ap Some (sym is); fits = ws ∙ sym e ∙ wide tables s m ag; plan = refl; plan-fits = tt; law = tt })
     (ap (λ x. Size x b) la ∙ ap (Size (length ls)) (lb ∙ ap (λ w. width w (answer ls)) (sym e)))
 
 pub refused-lay : {X : Type 0} (tables : X → List Table) (s : Session X) (ls : List Line) (x : Refusal) → Unlaid.Refused ls (widths (shown tables (s .layer))) x → Steps tables s s (lay ls) (Refused x)
-refused-lay tables s ls x why rules m ag =
+refused-lay tables s ls x why m ag =
     let e = ap widths (tracks-show tables (s .layer) (m .tables) (ag .rows)) in
-    refused tables s s rules m (lay ls) x (ap (λ w. lay-refusal w ls) e ∙ refused-some (widths (shown tables (s .layer))) ls x why) refl ag
+    refused tables s s m (lay ls) x (ap (λ w. lay-refusal w ls) e ∙ refused-some (widths (shown tables (s .layer))) ls x why) refl ag
 
 module _ {X : Type 0} (tables : X → List Table) (s : Session X) where
   pub unnest-none : s .query ≡ None → Steps tables s s unnest (Refused NothingStands)
-  unnest-none e rules m ag =
-      refused tables s s rules m unnest NothingStands (ap (unnest-refusal (flat-lines (widths (tables-of m)))) (ag .query ∙ ap standing-lines e)) refl ag
+  unnest-none e m ag =
+      refused tables s s m unnest NothingStands (ap (unnest-refusal (flat-lines (widths (tables-of m)))) (ag .query ∙ ap standing-lines e)) refl ag
 
-  module _ (q : Query) (is : s .query ≡ Some q) (rules : Rules) (m : Model) (ag : Agrees tables s m) where
+  module _ (q : Query) (is : s .query ≡ Some q) (m : Model) (ag : Agrees tables s m) where
     lines : m .query ≡ Some (lines-of q)
     lines = ag .query ∙ ap standing-lines is
 
@@ -208,23 +209,24 @@ module _ {X : Type 0} (tables : X → List Table) (s : Session X) where
     flat-is = ap (flat-of (flat-lines (widths (tables-of m)))) lines ∙ ap (λ w. Some (flat-lines w (lines-of q))) same
 
   pub unnest-made : (q : Query) (p : FlatPlan) (k : ℕ) → s .query ≡ Some q → Unnested q p → k ≡ length (plan-lines p) → Steps tables s (with-plan s p) unnest (Count k)
-  unnest-made q p k is u n rules m ag =
+  unnest-made q p k is u n m ag =
       let ws = widths (tables (s .layer .below)) in
-      let plan = flat-is q is rules m ag ∙ ap Some (sym (u .lines)) in
-      let law : Plan-law ws (Some (lines-of q)) (Some (plan-lines p)) = (subst (λ w. Agree w (lines-of q) (plan-lines p)) (here q is rules m ag) (u .agrees), u .no-apply) in
-      made tables s (with-plan s p) rules m unnest (Count k) (cause-is q is rules m ag ∙ cond-true (leb (length (asked-lines q)) 512) None (Some LongPlan) (le-leb (length (asked-lines q)) 512 (u .few)))
+      let plan = flat-is q is m ag ∙ ap Some (sym (u .lines)) in
+      let law : Plan-law ws (Some (lines-of q)) (Some (plan-lines p)) = (subst (λ w. Agree w (lines-of q) (plan-lines p)) (here q is m ag) (u .agrees), u .no-apply) in
+      made tables s (with-plan s p) m unnest (Count k) (cause-is q is m ag ∙ cond-true (leb (length (asked-lines q)) 512) None (Some LongPlan) (le-leb (length (asked-lines q)) 512 (u .few)))
       (record {
         rows = ag .rows;
         query = ag .query;
         fits = ag .fits;
         plan = plan;
-        law = subst (λ o. Plan-law ws o (flat-of (flat-lines (widths (tables-of m))) (m .query))) (sym (lines q is rules m ag)) (subst (Plan-law ws (Some (lines-of q))) (sym plan) law);
+        plan-fits = u .widths ∙ here q is m ag;
+        law = subst (λ o. Plan-law ws o (flat-of (flat-lines (widths (tables-of m))) (m .query))) (sym (lines q is m ag)) (subst (Plan-law ws (Some (lines-of q))) (sym plan) law);
       })
       (ap Count n ∙ sym (ap (λ o. Count (count-lines o)) plan))
 
   pub unnest-long : (q : Query) (e : Refusal) → s .query ≡ Some q → Long.Refused q e → Steps tables s s unnest (Refused e)
-  unnest-long q e is l rules m ag =
-      refused tables s s rules m unnest e (cause-is q is rules m ag ∙ cond-false (leb (length (asked-lines q)) 512) None (Some LongPlan) (lt-leb (length (asked-lines q)) 512 (l .over)) ∙ ap Some (sym (l .cause))) refl ag
+  unnest-long q e is l m ag =
+      refused tables s s m unnest e (cause-is q is m ag ∙ cond-false (leb (length (asked-lines q)) 512) None (Some LongPlan) (lt-leb (length (asked-lines q)) 512 (l .over)) ∙ ap Some (sym (l .cause))) refl ag
 
 -- what unnesting says of itself
 module _ {X : Type 0} (s : Session X) (q : Query) (is : s .query ≡ Some q) where

@@ -9,6 +9,7 @@ use Rattle.std.specs.Results.{Cases}
 use Rattle.std.specs.declared.option.Option.{Option}
 use Rattle.std.specs.declared.option.Option.the-variants.{Some, None}
 use Rattle.std.specs.declared.result.Result.{Result}
+use Rattle.std.specs.declared.result.Result.the-variants.{Err}
 use Rattle.cells.specs.Cells.{Row}
 use Rattle.cells.specs.declared.cell.Cell.{Cell}
 use Rattle.stock.specs.Tables.{Table, widths, rows-of}
@@ -17,16 +18,19 @@ use Rattle.stock.specs.declared.refusal.Refusal.the-variants.{NothingStands, Lo
 use Rattle.movements.specs.Moves.{add-cause, withdraw-cause, with-row, without-row}
 use Rattle.movements.specs.Shown.{shown, rows-remaining, Uncut}
 use Rattle.movements.specs.declared.movements.Movements.{Movements}
-use Rattle.lines.specs.Lines.{answer}
+use Rattle.lines.specs.Lines.{answer, plan-rows}
 use Rattle.lines.specs.Trees.{width}
 use Rattle.lines.specs.declared.line.Line.{Line}
+use Rattle.query.specs.Queries.{lines-of, widths-of}
 use Rattle.query.specs.Verdicts.{Accepted, Refused}
 use Rattle.query.specs.declared.query.Query.{Query}
-use Rattle.unnest.specs.FlatPlans.{asked-lines, Unnested}
+use Rattle.unnest.specs.FlatPlans.{plan-lines, plan-widths, asked-lines, Unnested}
 use Rattle.unnest.specs.declared.plan.FlatPlan.{FlatPlan}
+use Rattle.evaluate.specs.Moments.{Moment, ask-moments, run-moments}
+use Rattle.evaluate.specs.Running.{Evaluates}
 use Rattle.session.specs.Model.{Model}
-use Rattle.session.specs.Plans.{standing-lines, standing-plan, Fits, Plan-law}
-use Rattle.session.specs.Requests.{Request, Rules, step}
+use Rattle.session.specs.Plans.{standing-lines, standing-plan, Fits, Plan-fits, Plan-law}
+use Rattle.session.specs.Requests.{Request, step}
 use Rattle.session.specs.Replies.{Reply, answer-due, reply-due, lines-of as count-lines}
 use Rattle.session.specs.Tracks.{Tracks}
 use Rattle.session.specs.declared.calls.Answer.{Answer}
@@ -89,12 +93,27 @@ Unnests s n r = Cases r
     × (n .layer ≡ s .layer))
     (λ e. (unnest-cause (s .query) ≡ Some e) × (n ≡ s))
 
+-- lines are worked out over the tables ts into lent cells, with these moments
+abbrev pub Works-out : List Table → List Line → List Moment → List Cell → List Cell → Result (ℕ × ℕ) Refusal → Type 0
+Works-out ts ls moments before after r = Evaluates (plan-rows ts ls) (width (widths ts) (answer ls)) moments before after r
+
+-- with no query nothing is asked; one checked against the tables ts is asked over them
+abbrev pub Asks : List Table → Option Query → List Cell → List Cell → Result (ℕ × ℕ) Refusal → Type 0
+Asks ts None before after r = (r ≡ Err NothingStands) × (after ≡ before)
+Asks ts (Some q) before after r = widths-of q ≡ widths ts → Works-out ts (lines-of q) (ask-moments ts (lines-of q)) before after r
+
+-- with no flat plan nothing is run; one made for the tables ts is run over them
+abbrev pub Runs : List Table → Option FlatPlan → List Cell → List Cell → Result (ℕ × ℕ) Refusal → Type 0
+Runs ts None before after r = (r ≡ Err NothingStands) × (after ≡ before)
+Runs ts (Some p) before after r = plan-widths p ≡ widths ts → Works-out ts (plan-lines p) (run-moments ts (plan-lines p)) before after r
+
 -- a session holds what the model holds
 pub record Agrees {X : Type 0} (tables : X → List Table) (s : Session X) (m : Model) : Type 0 where
   pub rows : Tracks tables (s .layer) (m .tables)
   pub query : m .query ≡ standing-lines (s .query)
   pub fits : Fits (widths (tables (s .layer .below))) (s .query)
   pub plan : m .plan ≡ standing-plan (s .plan)
+  pub plan-fits : Plan-fits (widths (tables (s .layer .below))) (s .plan)
   pub law : Plan-law (widths (tables (s .layer .below))) (m .query) (m .plan)
 
 -- a session with another layer of movements
@@ -111,8 +130,8 @@ with-query s q = record { layer = s .layer; query = Some q; plan = None }
 
 -- a call with its answer: whatever model agreed before, the model after the call agrees, and the answer is the model's
 abbrev pub Steps : {X : Type 0} → (X → List Table) → Session X → Session X → Request → Answer → Type 0
-Steps tables s n r a = (rules : Rules) (m : Model) → Agrees tables s m → Agrees tables n (step rules m r) × (a ≡ answer-due rules m r)
+Steps tables s n r a = (m : Model) → Agrees tables s m → Agrees tables n (step m r) × (a ≡ answer-due m r)
 
 -- the same with the cells that were lent
 abbrev pub Makes : {X : Type 0} → (X → List Table) → Session X → Session X → Request → List Cell → Reply → Type 0
-Makes tables s n r cells a = (rules : Rules) (m : Model) → Agrees tables s m → Agrees tables n (step rules m r) × (a ≡ reply-due rules m r cells)
+Makes tables s n r cells a = (m : Model) → Agrees tables s m → Agrees tables n (step m r) × (a ≡ reply-due m r cells)

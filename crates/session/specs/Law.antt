@@ -11,7 +11,7 @@ use Rattle.movements.specs.Shown.{shown}
 use Rattle.lines.specs.Ops.{count}
 use Rattle.lines.specs.declared.line.Line.{Line}
 use Rattle.session.specs.Model.{Model, opened, tables-of}
-use Rattle.session.specs.Requests.{Request, lay, unnest, add, withdraw, clear, ask, run, Rules, cause, step}
+use Rattle.session.specs.Requests.{Request, lay, unnest, add, withdraw, clear, ask, run, cause, step}
 use Rattle.session.specs.Replies.{Reply, rows-given, size-given, written, reply-due}
 use Rattle.session.specs.Plans.{standing-lines, standing-plan, Plan-law}
 use Rattle.session.specs.Past.{request-of, lent, reply-of, after}
@@ -29,21 +29,21 @@ pub record Read (ts : List Table) (lines query : Option (List Line)) (why : Opti
   pub often : why ≡ None → (r : Row) → count r (rows-given ts lines) ≡ count r (rows-given ts query)
 
 -- the reply to a call is the model's
-abbrev pub Replied : Rules → Model → Request → List Cell → Reply → Type 0
-Replied rules m (lay ls) cells reply = reply ≡ reply-due rules m (lay ls) cells
-Replied rules m unnest cells reply = reply ≡ reply-due rules m unnest cells
-Replied rules m (add t row) cells reply = reply ≡ reply-due rules m (add t row) cells
-Replied rules m (withdraw t p) cells reply = reply ≡ reply-due rules m (withdraw t p) cells
-Replied rules m clear cells reply = reply ≡ reply-due rules m clear cells
-Replied rules m (ask n) cells reply = Read (tables-of m) (m .query) (m .query) (cause rules m (ask n)) cells reply
-Replied rules m (run n) cells reply = Read (tables-of m) (m .plan) (m .query) (cause rules m (run n)) cells reply
+abbrev pub Replied : Model → Request → List Cell → Reply → Type 0
+Replied m (lay ls) cells reply = reply ≡ reply-due m (lay ls) cells
+Replied m unnest cells reply = reply ≡ reply-due m unnest cells
+Replied m (add t row) cells reply = reply ≡ reply-due m (add t row) cells
+Replied m (withdraw t p) cells reply = reply ≡ reply-due m (withdraw t p) cells
+Replied m clear cells reply = reply ≡ reply-due m clear cells
+Replied m (ask n) cells reply = Read (tables-of m) (m .query) (m .query) (cause m (ask n)) cells reply
+Replied m (run n) cells reply = Read (tables-of m) (m .plan) (m .query) (cause m (run n)) cells reply
 
 -- every call of a past was replied to as by the model that was fed the calls before it
-abbrev pub Each-replied : Rules → Model → List Event → List Event → Type 0
-Each-replied rules m [] [] = Unit {0}
-Each-replied rules m [] (d ∷ ds) = ⊥
-Each-replied rules m (e ∷ es) [] = ⊥
-Each-replied rules m (e ∷ es) (d ∷ ds) = Replied rules m (request-of e) (lent e) (reply-of d) × Each-replied rules (step rules m (request-of e)) es ds
+abbrev pub Each-replied : Model → List Event → List Event → Type 0
+Each-replied m [] [] = Unit {0}
+Each-replied m [] (d ∷ ds) = ⊥
+Each-replied m (e ∷ es) [] = ⊥
+Each-replied m (e ∷ es) (d ∷ ds) = Replied m (request-of e) (lent e) (reply-of d) × Each-replied (step m (request-of e)) es ds
 
 -- what a session holds is the model's
 pub record Stands {X : Type 0} (tables : X → List Table) (s : Session X) (m : Model) : Type 0 where
@@ -53,9 +53,9 @@ pub record Stands {X : Type 0} (tables : X → List Table) (s : Session X) (m : 
 
 -- after any past over any stock: what stands is the model's, the flat plan agrees with the query, each reply was the model's,
 -- and the calls and the stock are still the same
-pub record Session-follows-the-model {X : Type 0} (rules : Rules) (tables : X → List Table) (stock : X) (before done : List Event) (s : Session X) : Type 0 where
-  pub stands : Stands tables s (after rules (opened (tables stock)) before)
-  pub plan : Plan-law (widths (tables stock)) (after rules (opened (tables stock)) before .query) (after rules (opened (tables stock)) before .plan)
-  pub replied : Each-replied rules (opened (tables stock)) before done
+pub record Session-follows-the-model {X : Type 0} (tables : X → List Table) (stock : X) (before done : List Event) (s : Session X) : Type 0 where
+  pub stands : Stands tables s (after (opened (tables stock)) before)
+  pub plan : Plan-law (widths (tables stock)) (after (opened (tables stock)) before .query) (after (opened (tables stock)) before .plan)
+  pub replied : Each-replied (opened (tables stock)) before done
   pub calls : map request-of done ≡ map request-of before
   pub same : s .layer .below ≡ stock

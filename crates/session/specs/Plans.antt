@@ -10,7 +10,7 @@ use Rattle.lines.specs.Shapes.{shape-of, line-at}
 use Rattle.lines.specs.declared.line.Line.{Line}
 use Rattle.query.specs.Queries.{lines-of, widths-of}
 use Rattle.query.specs.declared.query.Query.{Query}
-use Rattle.unnest.specs.FlatPlans.{plan-lines}
+use Rattle.unnest.specs.FlatPlans.{plan-lines, plan-widths}
 use Rattle.unnest.specs.Plans.{is-apply}
 use Rattle.unnest.specs.Statement.{Agree}
 use Rattle.unnest.specs.declared.plan.FlatPlan.{FlatPlan}
@@ -29,6 +29,11 @@ standing-plan (Some p) = Some (plan-lines p)
 abbrev pub Fits : List ℕ → Option Query → Type 0
 Fits ws None = Unit {0}
 Fits ws (Some q) = widths-of q ≡ ws
+
+-- a flat plan that stands was made for them
+abbrev pub Plan-fits : List ℕ → Option FlatPlan → Type 0
+Plan-fits ws None = Unit {0}
+Plan-fits ws (Some p) = plan-widths p ≡ ws
 
 abbrev pub No-apply : List Line → Type 0
 No-apply ls = (i : ℕ) → i < length ls → is-apply (shape-of (line-at ls i)) ≡ false

@@ -7,12 +7,13 @@ use lib.ListN.{length}
 use Rattle.std.specs.declared.option.Option.{Option}
 use Rattle.std.specs.declared.option.Option.the-variants.{Some, None}
 use Rattle.cells.specs.Cells.{Row}
-use Rattle.stock.specs.Tables.{Table, widths, rows-of}
+use Rattle.stock.specs.Tables.{widths, rows-of}
 use Rattle.stock.specs.declared.refusal.Refusal.{Refusal}
 use Rattle.stock.specs.declared.refusal.Refusal.the-variants.{NothingStands, LongPlan, ManyCells, CellsOut, NotShown, NoRoom}
 use Rattle.movements.specs.Moves.{add-cause}
 use Rattle.lines.specs.declared.line.Line.{Line}
 use Rattle.unnest.specs.Emit.{flat-lines}
+use Rattle.evaluate.specs.Moments.{Moment, first-over, ask-moments, run-moments}
 use Rattle.session.specs.Checks.{lay-refusal}
 use Rattle.session.specs.Model.{Model, Model-table, tables-of, shown-tables, entries-at, added-at, added-in, hidden-in, with-added, with-taken, cleared}
 
@@ -25,12 +26,6 @@ pub data Request : Type 0 where
   clear : Request
   ask : ℕ → Request
   run : ℕ → Request
-
--- what the model takes from the rules of queries
-pub record Rules : Type 0 where
-  -- the line at which so many cells run out as a query is asked, or a flat plan run, over these tables
-  pub ask-out : List Table → List Line → ℕ → Option ℕ
-  pub run-out : List Table → List Line → ℕ → Option ℕ
 
 -- why a row is not withdrawn: it is not shown, or it is not an added one and 64 are hidden
 abbrev pub withdraw-refusal : List Model-table → ℕ → ℕ → Option Refusal
@@ -49,20 +44,20 @@ abbrev pub out-at : Option ℕ → Option Refusal
 out-at None = None
 out-at (Some line) = Some (CellsOut line)
 
--- why standing lines are not read into n cells, where `out` says at which line they run out
-abbrev pub read-refusal : (List Line → ℕ → Option ℕ) → Option (List Line) → ℕ → Option Refusal
-read-refusal out None n = Some NothingStands
-read-refusal out (Some ls) n = cond (leb n 65536) (out-at (out ls n)) (Some ManyCells)
+-- why standing lines are not read into n cells, by the cells that stand at each moment of it
+abbrev pub read-refusal : (List Line → List Moment) → Option (List Line) → ℕ → Option Refusal
+read-refusal moments None n = Some NothingStands
+read-refusal moments (Some ls) n = cond (leb n 65536) (out-at (first-over n (moments ls))) (Some ManyCells)
 
 -- the model's cause to refuse a call, the least number first
-abbrev pub cause : Rules → Model → Request → Option Refusal
-cause rules m (lay ls) = lay-refusal (widths (tables-of m)) ls
-cause rules m unnest = unnest-refusal (flat-lines (widths (tables-of m))) (m .query)
-cause rules m (add t row) = add-refusal (m .tables) t row
-cause rules m (withdraw t p) = withdraw-refusal (m .tables) t p
-cause rules m clear = None
-cause rules m (ask n) = read-refusal (rules .ask-out (tables-of m)) (m .query) n
-cause rules m (run n) = read-refusal (rules .run-out (tables-of m)) (m .plan) n
+abbrev pub cause : Model → Request → Option Refusal
+cause m (lay ls) = lay-refusal (widths (tables-of m)) ls
+cause m unnest = unnest-refusal (flat-lines (widths (tables-of m))) (m .query)
+cause m (add t row) = add-refusal (m .tables) t row
+cause m (withdraw t p) = withdraw-refusal (m .tables) t p
+cause m clear = None
+cause m (ask n) = read-refusal (ask-moments (tables-of m)) (m .query) n
+cause m (run n) = read-refusal (run-moments (tables-of m)) (m .plan) n
 
 abbrev pub flat-of : (List Line → List Line) → Option (List Line) → Option (List Line)
 flat-of flat None = None
@@ -72,19 +67,19 @@ abbrev pub with-tables : List Model-table → Model → Model
 with-tables ts m = record { tables = ts; query = m .query; plan = m .plan }
 
 -- the model after a call that it has no cause to refuse
-abbrev pub changed : Rules → Model → Request → Model
-changed rules m (lay ls) = record { tables = m .tables; query = Some ls; plan = None }
-changed rules m unnest = record { tables = m .tables; query = m .query; plan = flat-of (flat-lines (widths (tables-of m))) (m .query) }
-changed rules m (add t row) = with-tables (with-added (m .tables) t row) m
-changed rules m (withdraw t p) = with-tables (with-taken (m .tables) t p) m
-changed rules m clear = with-tables (cleared (m .tables)) m
-changed rules m (ask n) = m
-changed rules m (run n) = m
+abbrev pub changed : Model → Request → Model
+changed m (lay ls) = record { tables = m .tables; query = Some ls; plan = None }
+changed m unnest = record { tables = m .tables; query = m .query; plan = flat-of (flat-lines (widths (tables-of m))) (m .query) }
+changed m (add t row) = with-tables (with-added (m .tables) t row) m
+changed m (withdraw t p) = with-tables (with-taken (m .tables) t p) m
+changed m clear = with-tables (cleared (m .tables)) m
+changed m (ask n) = m
+changed m (run n) = m
 
 abbrev pub unless : {X : Type 0} → Option Refusal → (Refusal → X) → X → X
 unless (Some e) f x = f e
 unless None f x = x
 
 -- the model after any call: one that it has a cause to refuse changes nothing
-abbrev pub step : Rules → Model → Request → Model
-step rules m r = unless (cause rules m r) (λ _. m) (changed rules m r)
+abbrev pub step : Model → Request → Model
+step m r = unless (cause m r) (λ _. m) (changed m r)

@@ -10,6 +10,8 @@ pub(crate) enum Call {
     Add(usize, Vec<Cell>),
     Withdraw(usize, usize),
     Clear,
+    Ask,
+    Run,
 }
 
 // No answer yet, a count, rows or lines with a width, or a refusal.

@@ -1,10 +1,9 @@
 // Worked examples of what the reference model does.
 ghost use Rattle.session.specs.Examples.{Worked-pasts};
-ghost use Rattle.session.specs.Requests.{Rules};
 
 // Each past of the table ends as it says, worked out by the definitions alone.
 pub(crate) fn worked_pasts() -> u8
-    ensures { λ _. ⌜ ((rules : Rules) → Worked-pasts rules) ⌝ }
+    ensures { λ _. ⌜ Worked-pasts ⌝ }
 {
     0
 }

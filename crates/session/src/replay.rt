@@ -4,7 +4,6 @@ ghost use Rattle.session.specs.Agrees.{Makes};
 ghost use Rattle.session.specs.Law.{Session-follows-the-model};
 ghost use Rattle.session.specs.Past.{request-of, lent, reply-of};
 ghost use Rattle.session.specs.Replies.{told, told-size};
-ghost use Rattle.session.specs.Requests.{Rules};
 use crate::calls::Answer;
 use crate::calls::Call;
 use crate::calls::Event;
@@ -54,12 +53,18 @@ pub(crate) fn make<S: Stock>(session: &mut Session<S>, event: &mut Event)
             session.clear();
             event.answer = Answer::Count(0);
         }
+        Call::Ask => {
+            event.answer = tell_size(session.ask(&mut event.cells));
+        }
+        Call::Run => {
+            event.answer = tell_size(session.run(&mut event.cells));
+        }
     }
 }
 
 // Opens a session and makes a list of calls on it, each with its reply.
 pub(crate) fn replay<S: Stock>(stock: S, past: &mut [Event]) -> Session<S>
-    ensures { λ r. ⌜ ((rules : Rules) → Session-follows-the-model rules (S·Stock .tables) stock (now (past .entry)) (now (past .exit)) r) ⌝ }
+    ensures { λ r. ⌜ Session-follows-the-model (S·Stock .tables) stock (now (past .entry)) (now (past .exit)) r ⌝ }
 {
     let mut session = Session::open(stock);
     for i in 0..past.len() {

@@ -1,11 +1,15 @@
 // A session and its calls.
 ghost use mathlib.Core.Path.{_≡_};
+ghost use lib.ListN.{length};
+ghost use Rattle.movements.specs.Shown.{shown};
 ghost use Rattle.session.specs.Model.{opened};
-ghost use Rattle.session.specs.Requests.{lay, unnest, add, withdraw, clear};
-ghost use Rattle.session.specs.Agrees.{Agrees, Steps, Lays, Unnests, Adds, Withdraws, Clears};
-ghost use Rattle.session.specs.Replies.{told, told-size};
+ghost use Rattle.session.specs.Requests.{lay, unnest, add, withdraw, clear, ask, run};
+ghost use Rattle.session.specs.Agrees.{Agrees, Steps, Makes, Lays, Unnests, Asks, Runs, Adds, Withdraws, Clears};
+ghost use Rattle.session.specs.Replies.{told, told-size, reply};
 ghost use Rattle.session.specs.declared.calls.Answer.the-variants.{Count};
 use cells::cell::Cell;
+use evaluate::ask::ask as ask_query;
+use evaluate::run::run as run_plan;
 use lines::line::Line;
 use movements::movements::Movements;
 use movements::movements::MovementsStock;
@@ -60,6 +64,28 @@ impl<S: Stock> Session<S> {
         let count = plan.lines().len();
         self.plan = Some(plan);
         Ok(count)
+    }
+
+    // Asks the query that stands over the rows that are shown. Answers its rows, which are then first in the cells, and their width.
+    pub(crate) fn ask(&self, cells: &mut [Cell]) -> Result<(usize, usize), Refusal>
+        ensures made { λ r. ⌜ Asks (shown (S·Stock .tables) (now (self .entry) .layer)) (now (self .entry) .query) (now (cells .entry)) (now (cells .exit)) r ⌝ }
+        ensures steps { λ r. ⌜ Makes (S·Stock .tables) (now (self .entry)) (now (self .entry)) (ask (length (now (cells .entry)))) (now (cells .entry)) (reply (told-size r) (now (cells .exit))) ⌝ }
+    {
+        let Some(query) = &self.query else {
+            return Err(Refusal::NothingStands);
+        };
+        ask_query(&self.layer, query, cells)
+    }
+
+    // Runs the flat plan that stands over the rows that are shown. Answers its rows, which are then first in the cells, and their width.
+    pub(crate) fn run(&self, cells: &mut [Cell]) -> Result<(usize, usize), Refusal>
+        ensures made { λ r. ⌜ Runs (shown (S·Stock .tables) (now (self .entry) .layer)) (now (self .entry) .plan) (now (cells .entry)) (now (cells .exit)) r ⌝ }
+        ensures steps { λ r. ⌜ Makes (S·Stock .tables) (now (self .entry)) (now (self .entry)) (run (length (now (cells .entry)))) (now (cells .entry)) (reply (told-size r) (now (cells .exit))) ⌝ }
+    {
+        let Some(plan) = &self.plan else {
+            return Err(Refusal::NothingStands);
+        };
+        run_plan(&self.layer, plan, cells)
     }
 
     // Puts a row at the end of a table and answers how many rows the table then shows.

@@ -19,7 +19,7 @@ pub loop-i-holds : need.loop-i-holds
 loop-i-holds g c =
     let tables = g .S·Stock .tables in
     let s = c .open-session .result in
-    ((λ rules. subst (λ z. Agrees tables s (opened (tables z))) (sym (c .open-session .ensures .same)) (c .open-session .ensures .agrees)), (λ rules. tt), refl, refl, refl)
+    (subst (λ z. Agrees tables s (opened (tables z))) (sym (c .open-session .ensures .same)) (c .open-session .ensures .agrees), tt, refl, refl, refl)
 
 pub loop-i-again : need.loop-i-again
 loop-i-again g c =
@@ -35,13 +35,12 @@ loop-i-again g c =
     let l = c .loop-i-test .taken in
     let n : length qs ≡ length ps = c .loop-i .kept .past in
     let lq : i < length qs = omega arith in
+    let m = after (opened ts) (take i ps) in
     let is = getD-default qs i (c .index-past-i .result) x lq in (
-      (λ rules. subst (λ z. Agrees tables (c .make .last .session) z) (after-more (opened ts) ps qs i x y l n (inv .3) is rules) (c .make .ensures .made rules (after rules (opened ts) (take i ps)) (inv .0 rules) .0)),
-      (λ rules.
-          let m = after rules (opened ts) (take i ps) in
-          replied-more (opened ts) ps qs i x y l n (inv .3) is rules (inv .1 rules)
-          (replied rules (widths (tables (s .layer .below))) m (request-of x) (lent x) (reply-of y) (wide tables s m (inv .0 rules)) (inv .0 rules .law)
-          (tracks-lawful tables (s .layer) (m .tables) (inv .0 rules .rows) (g .S·Stock .lawful (s .layer .below))) (c .make .ensures .made rules m (inv .0 rules) .1))),
+      subst (λ z. Agrees tables (c .make .last .session) z) (after-more (opened ts) ps qs i x y l n (inv .3) is) (c .make .ensures .made m (inv .0) .0),
+      replied-more (opened ts) ps qs i x y l n (inv .3) is (inv .1)
+          (replied (widths (tables (s .layer .below))) m (request-of x) (lent x) (reply-of y) (wide tables s m (inv .0)) (inv .0 .law)
+          (tracks-lawful tables (s .layer) (m .tables) (inv .0 .rows) (g .S·Stock .lawful (s .layer .below))) (c .make .ensures .made m (inv .0) .1)),
       requests-more (opened ts) ps qs i x y l n (inv .3) is (inv .2) (c .make .ensures .call),
       rest-more (opened ts) ps qs i x y l n (inv .3) is,
       c .make .ensures .same ∙ inv .4,
@@ -60,14 +59,13 @@ returns g c =
     let wp : take i ps ≡ ps = take-all i ps (omega arith) in
     let wq : take i qs ≡ qs = take-all i qs (omega arith) in
     let e = c .open-session .ensures .same in
-    λ rules.
-    let m = after rules (opened (tables (c .args .stock))) ps in
-    let b : after rules (opened (tables stock)) (take i ps) ≡ m = ap (after rules (opened (tables stock))) wp ∙ ap (λ z. after rules (opened (tables z)) ps) e in
-    let ag : Agrees tables s m = subst (λ z. Agrees tables s z) b (inv .0 rules) in
+    let m = after (opened (tables (c .args .stock))) ps in
+    let b : after (opened (tables stock)) (take i ps) ≡ m = ap (after (opened (tables stock))) wp ∙ ap (λ z. after (opened (tables z)) ps) e in
+    let ag : Agrees tables s m = subst (λ z. Agrees tables s z) b (inv .0) in
     record {
       stands = record { rows = sym (tracks-show tables (s .layer) (m .tables) (ag .rows)); query = sym (ag .query); plan = sym (ag .plan) };
       plan = subst (λ z. Plan-law (widths (tables z)) (m .query) (m .plan)) (inv .4 ∙ e) (ag .law);
-      replied = subst (λ z. Each-replied rules (opened (tables z)) ps qs) e (subst (λ z. Each-replied rules (opened (tables stock)) ps z) wq (subst (λ z. Each-replied rules (opened (tables stock)) z (take i qs)) wp (inv .1 rules)));
+      replied = subst (λ z. Each-replied (opened (tables z)) ps qs) e (subst (λ z. Each-replied (opened (tables stock)) ps z) wq (subst (λ z. Each-replied (opened (tables stock)) z (take i qs)) wp (inv .1)));
       calls = ap (map request-of) (sym wq) ∙ inv .2 ∙ ap (map request-of) wp;
       same = inv .4 ∙ e;
     }

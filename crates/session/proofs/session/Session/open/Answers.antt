@@ -12,5 +12,5 @@ returns g c =
     let o = c .over .ensures in
     record {
       same = o .same;
-      agrees = record { rows = subst (λ z. Tracks tables n (map open-table (tables z))) (o .same) (tracks-open tables n (o .adds) (o .hides) (o .uncut)); query = refl; fits = tt; plan = refl; law = tt };
+      agrees = record { rows = subst (λ z. Tracks tables n (map open-table (tables z))) (o .same) (tracks-open tables n (o .adds) (o .hides) (o .uncut)); query = refl; fits = tt; plan = refl; plan-fits = tt; law = tt };
     }
