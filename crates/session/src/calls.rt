@@ -4,7 +4,7 @@ use lines::line::Line;
 use stock::refusal::Refusal;
 
 #[derive(Drop)]
-pub(crate) enum Call {
+pub enum Call {
     Lay(Vec<Line>),
     Unnest,
     Add(usize, Vec<Cell>),
@@ -16,7 +16,7 @@ pub(crate) enum Call {
 
 // No answer yet, a count, rows or lines with a width, or a refusal.
 #[derive(Clone, Copy)]
-pub(crate) enum Answer {
+pub enum Answer {
     Open,
     Count(usize),
     Size(usize, usize),
@@ -25,8 +25,8 @@ pub(crate) enum Answer {
 
 // A call, the cells that are lent to it, and its answer.
 #[derive(Drop)]
-pub(crate) struct Event {
-    pub(crate) call: Call,
-    pub(crate) cells: Vec<Cell>,
-    pub(crate) answer: Answer,
+pub struct Event {
+    pub call: Call,
+    pub cells: Vec<Cell>,
+    pub answer: Answer,
 }

@@ -2,7 +2,7 @@
 ghost use Rattle.session.specs.Examples.{Worked-pasts};
 
 // Each past of the table ends as it says, worked out by the definitions alone.
-pub(crate) fn worked_pasts() -> u8
+pub fn worked_pasts() -> u8
     ensures { λ _. ⌜ Worked-pasts ⌝ }
 {
     0

@@ -31,7 +31,7 @@ fn tell_size(r: Result<(usize, usize), Refusal>) -> Answer
 
 // Makes one call. If a model agreed with the session, it still does once it has been fed the call too,
 // and it replies the same.
-pub(crate) fn make<S: Stock>(session: &mut Session<S>, event: &mut Event)
+pub fn make<S: Stock>(session: &mut Session<S>, event: &mut Event)
     ensures made { λ _. ⌜ Makes (S·Stock .tables) (now (session .entry)) (now (session .exit)) (request-of (now (event .entry))) (lent (now (event .entry))) (reply-of (now (event .exit))) ⌝ }
     ensures call { λ _. ⌜ request-of (now (event .exit)) ≡ request-of (now (event .entry)) ⌝ }
     ensures same { λ _. ⌜ now (session .exit) .layer .below ≡ now (session .entry) .layer .below ⌝ }
@@ -63,7 +63,7 @@ pub(crate) fn make<S: Stock>(session: &mut Session<S>, event: &mut Event)
 }
 
 // Opens a session and makes a list of calls on it, each with its reply.
-pub(crate) fn replay<S: Stock>(stock: S, past: &mut [Event]) -> Session<S>
+pub fn replay<S: Stock>(stock: S, past: &mut [Event]) -> Session<S>
     ensures { λ r. ⌜ Session-follows-the-model (S·Stock .tables) stock (now (past .entry)) (now (past .exit)) r ⌝ }
 {
     let mut session = Session::open(stock);

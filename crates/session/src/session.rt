@@ -19,7 +19,7 @@ use stock::stock::Stock;
 use unnest::plan::FlatPlan;
 
 #[derive(Drop)]
-pub(crate) struct Session<S> {
+pub struct Session<S> {
     pub(crate) layer: Movements<S>,
     pub(crate) query: Option<Query>,
     pub(crate) plan: Option<FlatPlan>,
@@ -27,7 +27,7 @@ pub(crate) struct Session<S> {
 
 impl<S: Stock> Session<S> {
     // No query and no movement yet.
-    pub(crate) fn open(stock: S) -> Session<S>
+    pub fn open(stock: S) -> Session<S>
         ensures same { λ r. ⌜ r .layer .below ≡ stock ⌝ }
         ensures agrees { λ r. ⌜ Agrees (S·Stock .tables) r (opened (S·Stock .tables stock)) ⌝ }
     {
@@ -39,7 +39,7 @@ impl<S: Stock> Session<S> {
     }
 
     // Checks lines against the tables; accepted, they are the query. Answers the lines and the width.
-    pub(crate) fn lay(&mut self, lines: &[Line]) -> Result<(usize, usize), Refusal>
+    pub fn lay(&mut self, lines: &[Line]) -> Result<(usize, usize), Refusal>
         ensures made { λ r. ⌜ Lays (S·Stock .tables) (now (self .entry)) (now (self .exit)) (now (lines .entry)) r ⌝ }
         ensures steps { λ r. ⌜ Steps (S·Stock .tables) (now (self .entry)) (now (self .exit)) (lay (now (lines .entry))) (told-size r) ⌝ }
         ensures same { λ _. ⌜ now (self .exit) .layer ≡ now (self .entry) .layer ⌝ }
@@ -52,7 +52,7 @@ impl<S: Stock> Session<S> {
     }
 
     // Sets the flat plan of the query that stands and answers its lines.
-    pub(crate) fn unnest(&mut self) -> Result<usize, Refusal>
+    pub fn unnest(&mut self) -> Result<usize, Refusal>
         ensures made { λ r. ⌜ Unnests (now (self .entry)) (now (self .exit)) r ⌝ }
         ensures steps { λ r. ⌜ Steps (S·Stock .tables) (now (self .entry)) (now (self .exit)) unnest (told r) ⌝ }
         ensures same { λ _. ⌜ now (self .exit) .layer ≡ now (self .entry) .layer ⌝ }
@@ -67,7 +67,7 @@ impl<S: Stock> Session<S> {
     }
 
     // Asks the query that stands over the rows that are shown. Answers its rows, which are then first in the cells, and their width.
-    pub(crate) fn ask(&self, cells: &mut [Cell]) -> Result<(usize, usize), Refusal>
+    pub fn ask(&self, cells: &mut [Cell]) -> Result<(usize, usize), Refusal>
         ensures made { λ r. ⌜ Asks (shown (S·Stock .tables) (now (self .entry) .layer)) (now (self .entry) .query) (now (cells .entry)) (now (cells .exit)) r ⌝ }
         ensures steps { λ r. ⌜ Makes (S·Stock .tables) (now (self .entry)) (now (self .entry)) (ask (length (now (cells .entry)))) (now (cells .entry)) (reply (told-size r) (now (cells .exit))) ⌝ }
     {
@@ -78,7 +78,7 @@ impl<S: Stock> Session<S> {
     }
 
     // Runs the flat plan that stands over the rows that are shown. Answers its rows, which are then first in the cells, and their width.
-    pub(crate) fn run(&self, cells: &mut [Cell]) -> Result<(usize, usize), Refusal>
+    pub fn run(&self, cells: &mut [Cell]) -> Result<(usize, usize), Refusal>
         ensures made { λ r. ⌜ Runs (shown (S·Stock .tables) (now (self .entry) .layer)) (now (self .entry) .plan) (now (cells .entry)) (now (cells .exit)) r ⌝ }
         ensures steps { λ r. ⌜ Makes (S·Stock .tables) (now (self .entry)) (now (self .entry)) (run (length (now (cells .entry)))) (now (cells .entry)) (reply (told-size r) (now (cells .exit))) ⌝ }
     {
@@ -89,7 +89,7 @@ impl<S: Stock> Session<S> {
     }
 
     // Puts a row at the end of a table and answers how many rows the table then shows.
-    pub(crate) fn add(&mut self, table: usize, row: &[Cell]) -> Result<usize, Refusal>
+    pub fn add(&mut self, table: usize, row: &[Cell]) -> Result<usize, Refusal>
         ensures made { λ r. ⌜ Adds (S·Stock .tables) (now (self .entry) .layer) (now (self .exit) .layer) table (now (row .entry)) r ⌝ }
         ensures steps { λ r. ⌜ Steps (S·Stock .tables) (now (self .entry)) (now (self .exit)) (add table (now (row .entry))) (told r) ⌝ }
         ensures same { λ _. ⌜ now (self .exit) .layer .below ≡ now (self .entry) .layer .below ⌝ }
@@ -98,7 +98,7 @@ impl<S: Stock> Session<S> {
     }
 
     // Takes out the row shown at a place and answers how many rows the table then shows.
-    pub(crate) fn withdraw(&mut self, table: usize, place: usize) -> Result<usize, Refusal>
+    pub fn withdraw(&mut self, table: usize, place: usize) -> Result<usize, Refusal>
         ensures made { λ r. ⌜ Withdraws (S·Stock .tables) (now (self .entry) .layer) (now (self .exit) .layer) table place r ⌝ }
         ensures steps { λ r. ⌜ Steps (S·Stock .tables) (now (self .entry)) (now (self .exit)) (withdraw table place) (told r) ⌝ }
         ensures same { λ _. ⌜ now (self .exit) .layer .below ≡ now (self .entry) .layer .below ⌝ }
@@ -107,7 +107,7 @@ impl<S: Stock> Session<S> {
     }
 
     // Shows the rows below again.
-    pub(crate) fn clear(&mut self)
+    pub fn clear(&mut self)
         ensures made { λ _. ⌜ Clears (S·Stock .tables) (now (self .entry) .layer) (now (self .exit) .layer) ⌝ }
         ensures steps { λ _. ⌜ Steps (S·Stock .tables) (now (self .entry)) (now (self .exit)) clear (Count 0) ⌝ }
         ensures same { λ _. ⌜ now (self .exit) .layer .below ≡ now (self .entry) .layer .below ⌝ }
