@@ -3,12 +3,10 @@ use crate::outcomes::hold;
 use crate::outcomes::needs;
 use crate::outcomes::planned;
 use crate::outcomes::run_into;
+use crate::reorder::reorder;
 use cells::cell::Cell;
-use cells::sign::Sign;
 use evaluate::run::run;
-use lines::line::Aggregate;
 use lines::line::Line;
-use lines::line::Side;
 use query::query::Query;
 use std::test::*;
 use stock::refusal::Refusal;
@@ -25,46 +23,6 @@ fn refused(
         Ok(_) => Err(Fail::new("answered")),
         Err(e) => check_eq((e.number(), e.value()), (number, value)),
     }
-}
-
-fn reorder() -> [Line; 9] {
-    let equal = Sign::Equal;
-    let shipped = Line::Compare {
-        sign: equal,
-        left: Side::Column(0),
-        right: Side::Column(2),
-    };
-    let counted = Line::Compare {
-        sign: equal,
-        left: Side::Column(1),
-        right: Side::Column(2),
-    };
-    let aggregate = Aggregate::Rows;
-    [
-        Line::Table { table: 0 },
-        Line::Table { table: 1 },
-        shipped,
-        Line::Select {
-            rows: 1,
-            condition: 2,
-        },
-        Line::Total {
-            aggregate,
-            column: 0,
-            rows: 3,
-        },
-        Line::ApplyCross { left: 0, right: 4 },
-        counted,
-        Line::Select {
-            rows: 5,
-            condition: 6,
-        },
-        Line::Keep {
-            first: 2,
-            last: 0,
-            rows: 7,
-        },
-    ]
 }
 
 // The flat plan reads two of its lines more than once. Its lines take 8, 6, 6, 36, 12, 6, 2, 3, 9, 12, 9 and 6 cells.

@@ -1,5 +1,6 @@
 // A plan run with just the cells that it needs, and with one less.
 use cells::cell::Cell;
+use evaluate::ask::ask;
 use evaluate::run::run;
 use lines::line::Line;
 use query::query::Query;
@@ -76,6 +77,34 @@ pub fn needs(
     hold(&lent, expected)?;
     let mut short = vec![in heap; Cell::Number(9); need.saturating_sub(1)]?;
     match run_into(&plan, &mut short) {
+        Ok(_) => return Err(Fail::new("answered")),
+        Err(e) => check_eq((e.number(), e.value()), (12, line))?,
+    }
+    hold(&short, &[])
+}
+
+// The same of asking the query itself.
+pub fn asks(
+    heap: Global,
+    lines: &[Line],
+    need: usize,
+    line: usize,
+    rows: usize,
+    width: usize,
+    expected: &[Cell],
+) -> Result<(), Fail> {
+    let stock = Shelf::of(&STOCK, &TABLES);
+    let Ok(query) = Query::check(lines, &stock) else {
+        return Err(Fail::new("not accepted"));
+    };
+    let mut lent = vec![in heap; Cell::Number(9); need]?;
+    match ask(&stock, &query, &mut lent) {
+        Ok(counts) => check_eq(counts, (rows, width))?,
+        Err(_) => return Err(Fail::new("refused")),
+    }
+    hold(&lent, expected)?;
+    let mut short = vec![in heap; Cell::Number(9); need.saturating_sub(1)]?;
+    match ask(&stock, &query, &mut short) {
         Ok(_) => return Err(Fail::new("answered")),
         Err(e) => check_eq((e.number(), e.value()), (12, line))?,
     }
