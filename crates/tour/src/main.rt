@@ -1,5 +1,6 @@
 // A walk through the engine in plain words, over a dealer's kits and shipments.
 mod queries;
+mod sessions;
 mod stocks;
 mod words;
 
@@ -7,6 +8,7 @@ use cells::cell::Cell;
 use movements::movements::Movements;
 use movements::movements::MovementsStock;
 use queries::ask_for_kits;
+use sessions::live;
 use shelf::questions::ShelfStock;
 use shelf::shelf::Shelf;
 use std::io;
@@ -43,5 +45,6 @@ fn main(rt: LibcRuntime) -> io::Result<()> {
     tell(&rt, "tables", Shelf::check(&cells[0..13], &pairs))?;
     let mut layer = Movements::over(Shelf::of(&cells, &pairs));
     move_rows(&rt, &mut layer)?;
-    ask_for_kits(&rt, &layer)
+    ask_for_kits(&rt, &layer)?;
+    live(&rt, Shelf::of(&cells, &pairs))
 }

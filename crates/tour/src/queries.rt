@@ -15,7 +15,7 @@ use stock::stock::Stock;
 use unnest::plan::FlatPlan;
 
 // The kits whose column 1 is the number of their shipments; the last comparison is by a given column.
-fn reorder(compared: usize) -> [Line; 9] {
+pub fn reorder(compared: usize) -> [Line; 9] {
     [
         Line::Table { table: 0 },
         Line::Table { table: 1 },
@@ -60,7 +60,7 @@ fn list(rt: &LibcRuntime, lines: &[Line]) -> io::Result<()> {
 }
 
 // Rows as they lie in lent cells.
-fn show_rows(rt: &LibcRuntime, cells: &[Cell], rows: usize, width: usize) -> io::Result<()> {
+pub fn show_rows(rt: &LibcRuntime, cells: &[Cell], rows: usize, width: usize) -> io::Result<()> {
     let mut place = 0usize;
     for _ in 0..rows {
         print!(rt, "  (")?;
