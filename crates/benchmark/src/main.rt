@@ -1,4 +1,6 @@
 // How many cells two queries need at three sizes, and with a repeat count as argument how long a call takes.
+#![tactic(auto)]
+
 mod measure;
 mod queries;
 mod rows;

@@ -1,4 +1,6 @@
 // The words of the console: commands, lines of a query and cells, read from bytes, and lines written.
+#![tactic(auto)]
+
 pub mod command;
 mod conditions;
 mod kinds;

@@ -1,4 +1,6 @@
 // A session that is driven by commands: each line of the input is one, and each that asks for an answer gets it on a line.
+#![tactic(auto)]
+
 mod answers;
 mod input;
 mod opening;

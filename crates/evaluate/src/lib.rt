@@ -1,4 +1,6 @@
 // Queries and flat plans worked out over lent cells.
+#![tactic(auto)]
+
 mod apply;
 pub mod ask;
 pub mod examples;

@@ -1,4 +1,6 @@
 // What cells, truth values and stocks answer on examples and at every edge.
+#![tactic(auto)]
+
 #[cfg(test)]
 mod moves;
 #[cfg(test)]

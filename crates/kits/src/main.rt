@@ -1,4 +1,6 @@
 // The kits that have as many shipments as they should: laid, unnested and run in a session. Prints the case's number and how many rows came.
+#![tactic(auto)]
+
 use cells::cell::Cell;
 use cells::sign::Sign;
 use lines::line::{Aggregate, Line, Side};

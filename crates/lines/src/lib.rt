@@ -1,4 +1,6 @@
 // The lines of a query or a flat plan, and what they mean.
+#![tactic(auto)]
+
 pub mod examples;
 pub mod laws;
 pub mod line;

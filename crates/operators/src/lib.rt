@@ -1,4 +1,6 @@
 // The operators of lines over lent cells: each reads its operands' rows where they lie and lays its result's rows behind them.
+#![tactic(auto)]
+
 pub mod conditions;
 pub mod filters;
 pub mod folds;

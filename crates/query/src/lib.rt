@@ -1,4 +1,6 @@
 // The check of a query, and the queries that have passed it.
+#![tactic(auto)]
+
 mod accept;
 mod check;
 mod contexts;

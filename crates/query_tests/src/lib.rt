@@ -1,4 +1,6 @@
 // The check of queries at every edge. All are checked against two tables of one column each.
+#![tactic(auto)]
+
 #[cfg(test)]
 mod columns;
 #[cfg(test)]

@@ -1,4 +1,6 @@
 // Sessions over kits and shipments, call by call. Expected answers are worked out by hand.
+#![tactic(auto)]
+
 #[cfg(test)]
 mod calls;
 #[cfg(test)]

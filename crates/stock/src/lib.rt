@@ -1,4 +1,6 @@
 // Stocks of tables behind one set of questions, and the refusals of the whole engine.
+#![tactic(auto)]
+
 pub mod lent;
 pub mod pair;
 pub mod refusal;

@@ -1,4 +1,6 @@
 // A walk through the engine in plain words, over a dealer's kits and shipments.
+#![tactic(auto)]
+
 mod queries;
 mod sessions;
 mod stocks;

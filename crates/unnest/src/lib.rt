@@ -1,4 +1,6 @@
 // From an accepted query to a flat plan: no Apply is left, and the rows are the same.
+#![tactic(auto)]
+
 mod emit;
 mod kinds;
 mod laying;

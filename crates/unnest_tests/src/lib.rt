@@ -1,4 +1,6 @@
 // Queries unnested and written out line by line. The expected lines were worked out by hand from the rules.
+#![tactic(auto)]
+
 #[cfg(test)]
 mod contexts;
 #[cfg(test)]
