@@ -5,13 +5,13 @@ use Rattle.commands.proofs.numbers.digits.Goals as goal
 pub loop-b-preserved : goal.loop-b-preserved
 loop-b-preserved c =
     let read = read_on c.args.word.now c.loop-b.b-index c.loop-b.n (omega arith) in
-    let is = c.in-ok-n.was in
+    let is = c.in_ok-n.was in
     cc
 
-pub returns-in-err-n : goal.returns-in-err-n
-returns-in-err-n c =
+pub returns-in_err-n : goal.returns-in_err-n
+returns-in_err-n c =
     let read = read_on c.args.word.now c.loop-b.b-index c.loop-b.n (omega arith) in
-    let is = c.in-err-n.was in
+    let is = c.in_err-n.was in
     let none = stuck (drop (c.loop-b.b-index + 1) c.args.word.now) in
     cc
 

@@ -3,4 +3,4 @@ use Rattle.evaluate.proofs.Settling.{cleared}
 use Rattle.evaluate.proofs.settle.clear.Goals as goal
 
 pub returns : goal.returns
-returns c = cleared c.args.cells.now c.put-nulls.new.cells _ c.put-nulls.ensures refl
+returns c = cleared c.args.cells.now c.put_nulls.new.cells _ c.put_nulls.ensures refl

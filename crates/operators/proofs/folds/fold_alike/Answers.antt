@@ -17,8 +17,8 @@ loop-j-init c =
     (folded_more c.args.n c.args.aggregate c.args.column c.args.context.now c.args.cells.now c.args.at c.args.rows _ c.requires.keys)
     (fold_none c.args.n c.args.aggregate c.args.column c.args.context.now key c.args.cells.now c.args.rows.start c.args.rows.width, within_none _)
 
-pub step-row-running-requires : goal.step-row-running-requires
-step-row-running-requires c =
+pub step_row-running-requires : goal.step_row-running-requires
+step_row-running-requires c =
     let p = walk_at (Folded c.args.n c.args.aggregate c.args.column c.args.context.now (row_at c.args.cells.now c.args.at c.args.n) c.args.cells.now c.args.rows c.loop-j.running) (length c.args.index.heads.now) (keys_in c.args.cells.now c.args.rows c.args.n) c.args.rows.rows (row_at c.args.cells.now c.args.at c.args.n) c.loop-j.j c.loop-j-test.true c.loop-j.invariant in
     record {
       next = next_front c.args.rows c.loop-j.j _ _ c.requires.rows c.loop-j-test.true (omega arith);
@@ -37,10 +37,10 @@ loop-j-preserved c =
     let key = row_at c.args.cells.now c.args.at c.args.n in
     let P : Running → ℕ → Type 0 = Folded c.args.n c.args.aggregate c.args.column c.args.context.now key c.args.cells.now c.args.rows in
     let p = walk_at (P c.loop-j.running) (length c.args.index.heads.now) keys c.args.rows.rows key c.loop-j.j c.loop-j-test.true c.loop-j.invariant in
-    walk_more (P c.loop-j.running) (P c.step-row-running.result) (length c.args.index.heads.now) keys c.args.rows.rows key c.loop-j.j c.next-j.result c.loop-j-test.true c.loop-j.invariant
+    walk_more (P c.loop-j.running) (P c.step_row-running.result) (length c.args.index.heads.now) keys c.args.rows.rows key c.loop-j.j c.next-j.result c.loop-j-test.true c.loop-j.invariant
     (c.next-j.ensures keys c.args.rows.rows c.loop-j-test.true c.requires.index)
-    (folded_more c.args.n c.args.aggregate c.args.column c.args.context.now c.args.cells.now c.args.at c.args.rows c.step-row-running.result c.requires.keys)
-    (fold_more c.args.n c.args.aggregate c.args.column c.args.context.now key c.args.cells.now c.args.rows.start c.loop-j.j c.args.rows.width (result_of c.args.aggregate c.loop-j.running) _ p.0 c.step-row-running.ensures.value, c.step-row-running.ensures.within c.loop-j.j p.1)
+    (folded_more c.args.n c.args.aggregate c.args.column c.args.context.now c.args.cells.now c.args.at c.args.rows c.step_row-running.result c.requires.keys)
+    (fold_more c.args.n c.args.aggregate c.args.column c.args.context.now key c.args.cells.now c.args.rows.start c.loop-j.j c.args.rows.width (result_of c.args.aggregate c.loop-j.running) _ p.0 c.step_row-running.ensures.value, c.step_row-running.ensures.within c.loop-j.j p.1)
 
 pub returns : goal.returns
 returns c = c.finish.ensures ∙ (walk_end (Folded c.args.n c.args.aggregate c.args.column c.args.context.now (row_at c.args.cells.now c.args.at c.args.n) c.args.cells.now c.args.rows c.loop-j.running) (length c.args.index.heads.now) (keys_in c.args.cells.now c.args.rows c.args.n) c.args.rows.rows (row_at c.args.cells.now c.args.at c.args.n) c.loop-j.j c.loop-j-test.false c.loop-j.invariant).0

@@ -10,24 +10,24 @@ use Rattle.operators.proofs.folds.group_each.Goals as goal
 pub loop-i-init : goal.loop-i-init
 loop-i-init c = start (grouped c.args.keys c.args.aggregate c.args.column c.args.context.now (rows_in c.args.cells.now c.args.rows)) c.args.cells.now c.args.rows.start c.args.rows.width c.args.out (c.args.keys + 1) c.requires.room.room
 
-pub group-row-requires : goal.group-row-requires
-group-row-requires c = record {
+pub group_row-requires : goal.group_row-requires
+group_row-requires c = record {
   next = next_front c.args.rows c.loop-i.i c.args.out _ c.requires.rows c.loop-i-test.true (omega arith);
   rows = stands_up c.args.rows c.args.out _ (omega arith) c.requires.rows;
-  front-keys = c.requires.keys;
+  front_keys = c.requires.keys;
   keys = c.requires.keys;
   addable = addable_below c.args.aggregate c.args.column c.args.context.now c.loop-i.cells c.args.cells.now c.args.rows c.args.out c.loop-i.invariant.below c.requires.rows c.requires.addable;
   room = record { room = c.loop-i.invariant.within; few = omega (arith, c.loop-i.invariant.kept, c.requires.room.few) };
-  front-index = indexes_front c.loop-i.cells c.args.cells.now c.args.rows c.args.keys c.loop-i.i c.args.out _ _ c.loop-i.invariant.below c.requires.rows.inside c.requires.keys (omega arith) c.requires.index;
+  front_index = indexes_front c.loop-i.cells c.args.cells.now c.args.rows c.args.keys c.loop-i.i c.args.out _ _ c.loop-i.invariant.below c.requires.rows.inside c.requires.keys (omega arith) c.requires.index;
   index = indexes_front c.loop-i.cells c.args.cells.now c.args.rows c.args.keys c.args.rows.rows c.args.out _ _ c.loop-i.invariant.below c.requires.rows.inside c.requires.keys (omega arith) c.requires.index;
 }
 
-pub returns-in-err-more : goal.returns-in-err-more
-returns-in-err-more c = rw (c.from-residual.ensures, ← each_grouped c.args.keys c.args.aggregate c.args.column c.args.context.now (rows_in c.args.cells.now c.args.rows))
-    (turn_over (grouped c.args.keys c.args.aggregate c.args.column c.args.context.now (rows_in c.args.cells.now c.args.rows)) c.args.cells.now c.loop-i.cells c.args.rows.start c.loop-i.i c.args.rows.rows c.args.rows.width c.args.out c.loop-i.k (c.args.keys + 1) c.requires.rows.inside c.loop-i-test.true _ (grouped_below c.args.keys c.args.aggregate c.args.column c.args.context.now c.loop-i.cells c.args.cells.now c.args.rows c.args.out _ _ c.loop-i.invariant.below c.requires.rows) c.loop-i.invariant c.in-err-more.ensures)
+pub returns-in_err-more : goal.returns-in_err-more
+returns-in_err-more c = rw (c.from_residual.ensures, ← each_grouped c.args.keys c.args.aggregate c.args.column c.args.context.now (rows_in c.args.cells.now c.args.rows))
+    (turn_over (grouped c.args.keys c.args.aggregate c.args.column c.args.context.now (rows_in c.args.cells.now c.args.rows)) c.args.cells.now c.loop-i.cells c.args.rows.start c.loop-i.i c.args.rows.rows c.args.rows.width c.args.out c.loop-i.k (c.args.keys + 1) c.requires.rows.inside c.loop-i-test.true _ (grouped_below c.args.keys c.args.aggregate c.args.column c.args.context.now c.loop-i.cells c.args.cells.now c.args.rows c.args.out _ _ c.loop-i.invariant.below c.requires.rows) c.loop-i.invariant c.in_err-more.ensures)
 
 pub loop-i-preserved : goal.loop-i-preserved
-loop-i-preserved c = turn (grouped c.args.keys c.args.aggregate c.args.column c.args.context.now (rows_in c.args.cells.now c.args.rows)) c.args.cells.now c.loop-i.cells c.group-row.new.cells c.args.rows.start c.loop-i.i c.args.rows.rows c.args.rows.width c.args.out c.loop-i.k c.in-ok-more.more (c.args.keys + 1) c.requires.rows.inside c.loop-i-test.true _ (grouped_below c.args.keys c.args.aggregate c.args.column c.args.context.now c.loop-i.cells c.args.cells.now c.args.rows c.args.out _ _ c.loop-i.invariant.below c.requires.rows) c.loop-i.invariant c.in-ok-more.ensures
+loop-i-preserved c = turn (grouped c.args.keys c.args.aggregate c.args.column c.args.context.now (rows_in c.args.cells.now c.args.rows)) c.args.cells.now c.loop-i.cells c.group_row.new.cells c.args.rows.start c.loop-i.i c.args.rows.rows c.args.rows.width c.args.out c.loop-i.k c.in_ok-more.more (c.args.keys + 1) c.requires.rows.inside c.loop-i-test.true _ (grouped_below c.args.keys c.args.aggregate c.args.column c.args.context.now c.loop-i.cells c.args.cells.now c.args.rows c.args.out _ _ c.loop-i.invariant.below c.requires.rows) c.loop-i.invariant c.in_ok-more.ensures
 
 pub returns : goal.returns
 returns c = done (grouped c.args.keys c.args.aggregate c.args.column c.args.context.now (rows_in c.args.cells.now c.args.rows)) c.args.cells.now c.loop-i.cells c.args.rows.start c.loop-i.i c.args.rows.rows c.args.rows.width c.args.out c.loop-i.k (c.args.keys + 1) _ c.loop-i-test.false c.loop-i.auto.i-end (each_grouped c.args.keys c.args.aggregate c.args.column c.args.context.now (rows_in c.args.cells.now c.args.rows)) c.loop-i.invariant

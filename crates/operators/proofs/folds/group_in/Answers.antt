@@ -12,5 +12,5 @@ build-index-requires c = record {
   room = c.requires.lent.enough;
 }
 
-pub group-each-requires : goal.group-each-requires
-group-each-requires c = record { rows = c.requires.rows; keys = c.requires.keys; addable = c.requires.addable; room = c.requires.room; index = c.build-index.ensures }
+pub group_each-requires : goal.group_each-requires
+group_each-requires c = record { rows = c.requires.rows; keys = c.requires.keys; addable = c.requires.addable; room = c.requires.room; index = c.build-index.ensures }

@@ -7,8 +7,8 @@ use Rattle.operators.proofs.Stack.{laid_one}
 use Rattle.operators.proofs.Grouping.{few_rows, stands_in, fold_every}
 use Rattle.operators.proofs.folds.total.Goals as goal
 
-pub fold-alike-cell-requires : goal.fold-alike-cell-requires
-fold-alike-cell-requires c = record {
+pub fold_alike-cell-requires : goal.fold_alike-cell-requires
+fold_alike-cell-requires c = record {
   rows = stands_in c.args.rows c.args.cells.now c.args.out c.requires.rows c.requires.room.room;
   few = few_rows c.args.rows c.args.cells.now c.args.out c.requires.rows c.requires.room;
   key = omega (arith, c.requires.room.room);
@@ -20,4 +20,4 @@ fold-alike-cell-requires c = record {
 pub returns : goal.returns
 returns c =
     let P : Cell → Type 0 = λ z. Put c.args.cells.now c.put.new.cells c.args.out 1 (z ∷ []) in
-    laid_one c.args.cells.now c.put.new.cells c.args.out 1 _ (subst P (c.fold-alike-cell.ensures ∙ fold_every c.args.aggregate c.args.column c.args.context.now (rows_in c.args.cells.now c.args.rows) c.args.cells.now c.args.out) c.put.ensures)
+    laid_one c.args.cells.now c.put.new.cells c.args.out 1 _ (subst P (c.fold_alike-cell.ensures ∙ fold_every c.args.aggregate c.args.column c.args.context.now (rows_in c.args.cells.now c.args.rows) c.args.cells.now c.args.out) c.put.ensures)

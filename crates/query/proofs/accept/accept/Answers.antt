@@ -3,18 +3,18 @@ use Rattle.query.proofs.Sounds.{accepted_counted}
 use Rattle.query.proofs.Tabling.{front_is, accepted_copy, measured_copy}
 use Rattle.query.proofs.accept.accept.Goals as goal
 
-pub copy-lines-all-requires : goal.copy-lines-all-requires
-copy-lines-all-requires c = (accepted_counted c.args.lines.now (take c.args.stocked c.args.tables) c.in-ok-widths.ensures.0).1
+pub copy_lines-all-requires : goal.copy_lines-all-requires
+copy_lines-all-requires c = (accepted_counted c.args.lines.now (take c.args.stocked c.args.tables) c.in_ok-widths.ensures.0).1
 
-pub invariant-of-result : goal.invariant-of-result
-invariant-of-result c =
+pub invariant_of-result : goal.invariant_of-result
+invariant_of-result c =
     let ls = c.args.lines.now in
     let ws = take c.args.stocked c.args.tables in
-    let A = c.in-ok-widths.ensures in
+    let A = c.in_ok-widths.ensures in
     let n = front_is c.args.tables c.args.stocked 16 c.requires.few c.requires.long in (
       (accepted_counted ls ws A.0).1,
       (
-        c.copy-lines-all.ensures.long,
+        c.copy_lines-all.ensures.long,
         (
           c.requires.long,
           (
@@ -24,9 +24,9 @@ invariant-of-result c =
               (
                 c.requires.sized.most,
                 (
-                  accepted_copy ls c.copy-lines-all.result ws c.in-ok-widths.widths c.copy-lines-all.ensures.same A.0,
+                  accepted_copy ls c.copy_lines-all.result ws c.in_ok-widths.widths c.copy_lines-all.ensures.same A.0,
                   (
-                    measured_copy ls c.copy-lines-all.result ws c.in-ok-widths.widths c.copy-lines-all.ensures.same A.1,
+                    measured_copy ls c.copy_lines-all.result ws c.in_ok-widths.widths c.copy_lines-all.ensures.same A.1,
                     tt,
                   ),
                 ),

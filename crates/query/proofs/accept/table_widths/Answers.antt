@@ -10,7 +10,7 @@ pub loop-t-preserved : goal.loop-t-preserved
 loop-t-preserved g c =
     let ts = g.S.Stock.tables c.args.stock.now in
     let L = g.S.Stock.lawful c.args.stock.now in (
-      table_more ts c.loop-t.all c.loop-t.t c.loop-t.invariant.0 _ c.width.ensures (omega (arith, c.loop-t.invariant.1, c.table-count-t-end.ensures, L.few)) (omega (arith, c.table-count-t-end.ensures)),
+      table_more ts c.loop-t.all c.loop-t.t c.loop-t.invariant.0 _ c.width.ensures (omega (arith, c.loop-t.invariant.1, c.table_count-t-end.ensures, L.few)) (omega (arith, c.table_count-t-end.ensures)),
       length-set c.loop-t.all c.loop-t.t _ ∙ c.loop-t.invariant.1,
     )
 
@@ -19,6 +19,6 @@ returns g c =
     let ts = g.S.Stock.tables c.args.stock.now in
     record {
       long = c.loop-t.invariant.1;
-      same = table_all ts c.loop-t.all c.loop-t.t c.loop-t.invariant.0 (omega (arith, c.table-count-t-end.ensures));
+      same = table_all ts c.loop-t.all c.loop-t.t c.loop-t.invariant.0 (omega (arith, c.table_count-t-end.ensures));
       sized = sized_from ts (g.S.Stock.lawful c.args.stock.now);
     }

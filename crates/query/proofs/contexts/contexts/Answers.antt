@@ -24,14 +24,14 @@ loop-j-preserved c =
     let B = (n - (j - 1)) * 137438953472 in
     let b : x ≤ (n - j) * 137438953472 = c.loop-j.invariant.2 (j - 1) in (
       omega (arith, c.loop-j.invariant.0),
-      under_step (wider_by c.args.widths.now) 0 c.args.lines.now (listed c.loop-j.contexts) (listed c.hand-down.new.contexts) (j - 1) j c.shape-shape.result y
+      under_step (wider_by c.args.widths.now) 0 c.args.lines.now (listed c.loop-j.contexts) (listed c.hand_down.new.contexts) (j - 1) j c.shape-shape.result y
           (omega arith) (omega (arith, c.loop-j.invariant.0)) c.requires.few c.shape-shape.ensures
-          (λ i e. ap (λ v. x + v) (c.at.ensures ∙ ap (listed c.args.widths.now) c.first-of.ensures)) c.loop-j.invariant.1 (λ i h. c.hand-down.ensures 0 i (omega (arith, c.loop-j.invariant.3))),
+          (λ i e. ap (λ v. x + v) (c.at.ensures ∙ ap (listed c.args.widths.now) c.first_of.ensures)) c.loop-j.invariant.1 (λ i h. c.hand_down.ensures 0 i (omega (arith, c.loop-j.invariant.3))),
       (λ i. elim (cases_lt i 32) [
-        | inl h ↦ rw (c.hand-down.ensures 0 i (omega (arith, c.loop-j.invariant.3)))
+        | inl h ↦ rw (c.hand_down.ensures 0 i (omega (arith, c.loop-j.invariant.3)))
             (handed_small c.shape-shape.result x y (listed c.loop-j.contexts i) i B
-            (omega (arith, b, c.loop-j.invariant.0)) (omega (arith, b, c.loop-j.invariant.0, c.at.ensures, c.requires.small c.first-of.result)) (omega (arith, c.loop-j.invariant.2 i, c.loop-j.invariant.0)))
-        | inr h ↦ rw (get_or_past c.hand-down.new.contexts i 0 (omega (arith, c.hand-down.auto.contexts, c.loop-j.invariant.3))) (omega arith)
+            (omega (arith, b, c.loop-j.invariant.0)) (omega (arith, b, c.loop-j.invariant.0, c.at.ensures, c.requires.small c.first_of.result)) (omega (arith, c.loop-j.invariant.2 i, c.loop-j.invariant.0)))
+        | inr h ↦ rw (get_or_past c.hand_down.new.contexts i 0 (omega (arith, c.hand_down.auto.contexts, c.loop-j.invariant.3))) (omega arith)
       ]),
-      c.hand-down.auto.contexts ∙ c.loop-j.invariant.3,
+      c.hand_down.auto.contexts ∙ c.loop-j.invariant.3,
     )

@@ -2,4 +2,4 @@ use Rattle.std.proofs.Common.{sym, ◌∙◌, below_more}
 use Rattle.query.proofs.fits.first_unknown_table.Goals as goal
 
 pub loop-i-preserved : goal.loop-i-preserved
-loop-i-preserved c = below_more _ _ c.loop-i.invariant (sym c.is-unknown.ensures ∙ c.if-is-unknown.false)
+loop-i-preserved c = below_more _ _ c.loop-i.invariant (sym c.is_unknown.ensures ∙ c.if-is_unknown.false)

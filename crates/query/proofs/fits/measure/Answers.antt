@@ -19,16 +19,16 @@ loop-i-preserved c =
     let l = line_at ls i in
     let h : i < length ls = omega arith in
     let low : Lower i l = c.requires.ordered i h in
-    let ok : misfit (listed w) l ≡ false = sym c.is-misfit.ensures ∙ c.if-is-misfit.false in
-    let v = c.width-of-width.result in
+    let ok : misfit (listed w) l ≡ false = sym c.is_misfit.ensures ∙ c.if-is_misfit.false in
+    let v = c.width_of-width.result in
     let long : i < length w = omega (arith, c.loop-i.invariant.3, c.requires.few) in
     let p : 2 ^ (i + 1) ≡ 2 * 2 ^ i = rw (add-one i) (pow-suc 2 i ∙ omega arith) in (
       below_more _ _ c.loop-i.invariant.0 (sym (misfit_below i (listed w) (width_at ls ws) l low c.loop-i.invariant.1) ∙ ok),
       below_more (λ j. listed (set w i v) j ≡ width_at ls ws j) i
           (λ j k. get_or-set_other w i j v 0 (λ e. omega arith) ∙ c.loop-i.invariant.1 j k)
-          (get_or-set_same w i v 0 long ∙ c.width-of-width.ensures ∙ width_below ws i (listed w) (width_at ls ws) l low c.loop-i.invariant.1 ∙ sym (width_at_is ls ws i h low)),
+          (get_or-set_same w i v 0 long ∙ c.width_of-width.ensures ∙ width_below ws i (listed w) (width_at ls ws) l low c.loop-i.invariant.1 ∙ sym (width_at_is ls ws i h low)),
       set_small w i v (32 * 2 ^ (i + 1))
-          (omega (arith, width_small ws (listed w) (32 * 2 ^ i) l c.requires.slim (omega (arith, pow_pos i)) c.loop-i.invariant.2 ok, c.width-of-width.ensures, p))
+          (omega (arith, width_small ws (listed w) (32 * 2 ^ i) l c.requires.slim (omega (arith, pow_pos i)) c.loop-i.invariant.2 ok, c.width_of-width.ensures, p))
           (λ a. omega (arith, c.loop-i.invariant.2 a, p)),
       length-set w i v ∙ c.loop-i.invariant.3,
     )

@@ -13,16 +13,16 @@ loop-j-init c =
       refl,
     )
 
-pub inner-marks-y-requires : goal.inner-marks-y-requires
-inner-marks-y-requires c =
+pub inner_marks-y-requires : goal.inner_marks-y-requires
+inner_marks-y-requires c =
     in_place c.args.lines.now c.args.tables.now c.requires c.loop-j.contexts c.loop-j.j c.index-contexts-j.result (omega arith) c.loop-j.invariant.0 c.loop-j.invariant.2 c.loop-j.invariant.1
 
 pub loop-j-preserved : goal.loop-j-preserved
 loop-j-preserved c = (
   omega (arith, c.loop-j.invariant.0),
   handed_on c.args.lines.now c.args.tables.now c.requires c.loop-j.contexts c.loop-j.j c.index-contexts-j.result (omega arith) c.loop-j.invariant.0 c.loop-j.invariant.2 c.loop-j.invariant.1
-      c.hand-down.new.contexts c.shape.result c.inner-marks-y.result c.shape.ensures c.inner-marks-y.ensures c.hand-down.ensures,
-  c.hand-down.auto.contexts ∙ c.loop-j.invariant.2,
+      c.hand_down.new.contexts c.shape.result c.inner_marks-y.result c.shape.ensures c.inner_marks-y.ensures c.hand_down.ensures,
+  c.hand_down.auto.contexts ∙ c.loop-j.invariant.2,
 )
 
 pub listed : goal.listed

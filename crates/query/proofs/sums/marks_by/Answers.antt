@@ -10,7 +10,7 @@ known : (ws : List ℕ) (d x y : List Bool) (l k : Line) → l ≡ k → length 
 known ws d x y l k e h = let P : Line → Type 0 = λ v. length (own_by ws d x y v) ≤ 32 in subst P e h
 
 pub plain-requires-in-Table : goal.plain-requires-in-Table
-plain-requires-in-Table c = let n = known c.args.tables.now (marks_of c.args.context.now) (marks_of c.args.first.now) (marks_of c.args.second.now) c.args.line _ c.in-Table.is c.requires in rw c.table-width.ensures (rw length-replicate at n)
+plain-requires-in-Table c = let n = known c.args.tables.now (marks_of c.args.context.now) (marks_of c.args.first.now) (marks_of c.args.second.now) c.args.line _ c.in-Table.is c.requires in rw c.table_width.ensures (rw length-replicate at n)
 
 pub push-requires : goal.push-requires
 push-requires c = push_room (marks_of c.args.first.now) _ (known c.args.tables.now (marks_of c.args.context.now) (marks_of c.args.first.now) (marks_of c.args.second.now) c.args.line _ c.in-Extend.is c.requires)

@@ -13,8 +13,8 @@ returns-in-Lay g c =
     let e = c.args.event.now in
     let lines = c.deref.result.now in
     record {
-      made = makes g.S.Stock.tables c.args.session.now c.lay.new.self (request_of e) (lay lines) c.tell-size-event.result (told_size c.lay.result) (lent e)
-          (ap (request_by (length (lent e))) c.in-Lay.is ∙ ap lay (sym c.deref.ensures.value)) c.tell-size-event.ensures (λ m. refl) c.lay.ensures.steps;
+      made = makes g.S.Stock.tables c.args.session.now c.lay.new.self (request_of e) (lay lines) c.tell_size-event.result (told_size c.lay.result) (lent e)
+          (ap (request_by (length (lent e))) c.in-Lay.is ∙ ap lay (sym c.deref.ensures.value)) c.tell_size-event.ensures (λ m. refl) c.lay.ensures.steps;
       call = refl;
       same = ap (λ l. l.below) c.lay.ensures.same;
     }
@@ -67,12 +67,12 @@ returns-in-Ask g c =
     let e = c.args.event.now in
     let s = c.args.session.now in
     let a = c.ask.new.cells in
-    let is = c.deref-mut.ensures.value in
+    let is = c.deref_mut.ensures.value in
     let kept = c.ask.auto.cells in
-    let held = with_items_is e.cells a (kept ∙ c.deref-mut.ensures.len) in
+    let held = with_items_is e.cells a (kept ∙ c.deref_mut.ensures.len) in
     record {
-      made = makes_read tables s s (request_of e) (ask (length c.deref-mut.result.now)) c.deref-mut.result.now (lent e) a (lent (record { call = e.call; cells = with_items e.cells a; answer = e.answer })) c.tell-size-event-in-Ask.result (told_size c.ask.result)
-          (ap (request_by (length (lent e))) c.in-Ask.is ∙ ap (λ x. ask (length x)) (sym is)) is held c.tell-size-event-in-Ask.ensures c.ask.ensures.steps;
+      made = makes_read tables s s (request_of e) (ask (length c.deref_mut.result.now)) c.deref_mut.result.now (lent e) a (lent (record { call = e.call; cells = with_items e.cells a; answer = e.answer })) c.tell_size-event-in-Ask.result (told_size c.ask.result)
+          (ap (request_by (length (lent e))) c.in-Ask.is ∙ ap (λ x. ask (length x)) (sym is)) is held c.tell_size-event-in-Ask.ensures c.ask.ensures.steps;
       call = ap (λ n. request_by n e.call) (ap length held ∙ kept ∙ ap length is);
       same = refl;
     }
@@ -83,12 +83,12 @@ returns-in-Run g c =
     let e = c.args.event.now in
     let s = c.args.session.now in
     let a = c.run.new.cells in
-    let is = c.deref-mut-in-Run.ensures.value in
+    let is = c.deref_mut-in-Run.ensures.value in
     let kept = c.run.auto.cells in
-    let held = with_items_is e.cells a (kept ∙ c.deref-mut-in-Run.ensures.len) in
+    let held = with_items_is e.cells a (kept ∙ c.deref_mut-in-Run.ensures.len) in
     record {
-      made = makes_read tables s s (request_of e) (run (length c.deref-mut-in-Run.result.now)) c.deref-mut-in-Run.result.now (lent e) a (lent (record { call = e.call; cells = with_items e.cells a; answer = e.answer })) c.tell-size-event-in-Run.result (told_size c.run.result)
-          (ap (request_by (length (lent e))) c.in-Run.is ∙ ap (λ x. run (length x)) (sym is)) is held c.tell-size-event-in-Run.ensures c.run.ensures.steps;
+      made = makes_read tables s s (request_of e) (run (length c.deref_mut-in-Run.result.now)) c.deref_mut-in-Run.result.now (lent e) a (lent (record { call = e.call; cells = with_items e.cells a; answer = e.answer })) c.tell_size-event-in-Run.result (told_size c.run.result)
+          (ap (request_by (length (lent e))) c.in-Run.is ∙ ap (λ x. run (length x)) (sym is)) is held c.tell_size-event-in-Run.ensures c.run.ensures.steps;
       call = ap (λ n. request_by n e.call) (ap length held ∙ kept ∙ ap length is);
       same = refl;
     }

@@ -4,8 +4,8 @@ use Rattle.shelf.specs.Cut.{check_answer}
 use Rattle.shelf.proofs.Checking.{fault_over, fault_here, fault_more, fault_left, fault_none, fits_room}
 use Rattle.shelf.proofs.check.check.Goals as goal
 
-pub returns-then-i-ge-MOST-TABLES : goal.returns-then-i-ge-MOST-TABLES
-returns-then-i-ge-MOST-TABLES c =
+pub returns-then-i-ge-MOST_TABLES : goal.returns-then-i-ge-MOST_TABLES
+returns-then-i-ge-MOST_TABLES c =
     let ps = c.args.pairs.now in
     let cs = c.args.cells.now in
     sym (ap (λ o. check_answer o (length ps)) (c.loop-i.invariant.1 ∙ fault_over ps cs c.loop-i.i c.loop-i.at c.loop-i-test.true (omega arith)))
@@ -30,7 +30,7 @@ pub returns-then-at-cells : goal.returns-then-at-cells
 returns-then-at-cells c =
     let ps = c.args.pairs.now in
     let cs = c.args.cells.now in
-    let z : c.saturating-sub.result ≡ c.loop-i.i - 1 = omega arith in
+    let z : c.saturating_sub.result ≡ c.loop-i.i - 1 = omega arith in
     ap (λ k. Err (BadTable k)) z ∙ sym (ap (λ o. check_answer o (length ps)) (c.loop-i.invariant.1 ∙ fault_left ps cs c.loop-i.i c.loop-i.at c.loop-i-test.false (omega arith)))
 
 pub returns : goal.returns

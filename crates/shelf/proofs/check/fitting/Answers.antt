@@ -13,5 +13,5 @@ pub returns : goal.returns
 returns c =
     let d = length-drop c.args.at c.args.cells.now in
     let z : (c.args.at + c.args.rows * c.args.width) - c.args.at ≡ c.args.rows * c.args.width = omega arith in
-    c.all-stored.ensures ∙ ap (λ k. every stored (take k (drop c.args.at c.args.cells.now))) z
+    c.all_stored.ensures ∙ ap (λ k. every stored (take k (drop c.args.at c.args.cells.now))) z
     ∙ sym (fits_is c.args.width c.args.rows (drop c.args.at c.args.cells.now) (omega arith) (omega arith) (omega arith) (omega arith))

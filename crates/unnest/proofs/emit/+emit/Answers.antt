@@ -42,8 +42,8 @@ emit-requires-in-Inner t c =
     let s = operands (widths_of c.args.query.now) (lines_of c.args.query.now) c.args.line (accepted_ordered (lines_of c.args.query.now) (widths_of c.args.query.now) c.args.query.now.accepted) c.requires.within c.args.place c.line-kind.result c.line-kind.ensures (Inner c.in-Inner.left c.in-Inner.right) c.in-Inner.ensures c.requires.context in
     (omega (arith, b.0, c.decreases), (omega (arith, b.0, c.requires.within), in_same (widths_of c.args.query.now) (breadth c.args.place) (lines_of c.args.query.now) c.in-Inner.left c.requires.context.marks c.requires.context.long s.0))
 
-pub emit-condition-requires : goal.emit-condition-requires
-emit-condition-requires t c = let b = below (widths_of c.args.query.now) (lines_of c.args.query.now) c.args.line (accepted_ordered (lines_of c.args.query.now) (widths_of c.args.query.now) c.args.query.now.accepted) c.requires.within c.args.place c.line-kind.result c.line-kind.ensures (Tested c.in-Tested.rows c.in-Tested.condition) c.in-Tested.ensures in omega (arith, b.1, c.requires.within)
+pub emit_condition-requires : goal.emit_condition-requires
+emit_condition-requires t c = let b = below (widths_of c.args.query.now) (lines_of c.args.query.now) c.args.line (accepted_ordered (lines_of c.args.query.now) (widths_of c.args.query.now) c.args.query.now.accepted) c.requires.within c.args.place c.line-kind.result c.line-kind.ensures (Tested c.in-Tested.rows c.in-Tested.condition) c.in-Tested.ensures in omega (arith, b.1, c.requires.within)
 
 pub emit-requires-in-Inner-2 : goal.emit-requires-in-Inner-2
 emit-requires-in-Inner-2 t c =
@@ -52,105 +52,105 @@ emit-requires-in-Inner-2 t c =
       omega (arith, b.1, c.decreases),
       (
         omega (arith, b.1, c.requires.within),
-        in_inner (widths_of c.args.query.now) c.columns.result c.line-width.result (lines_of c.args.query.now) c.in-Inner.left c.in-Inner.right c.requires.context.marks
-            (c.requires.context.long ∙ sym c.columns.ensures) c.line-width.ensures s.0 s.1,
+        in_inner (widths_of c.args.query.now) c.columns.result c.line_width.result (lines_of c.args.query.now) c.in-Inner.left c.in-Inner.right c.requires.context.marks
+            (c.requires.context.long ∙ sym c.columns.ensures) c.line_width.ensures s.0 s.1,
       ),
     )
 
-pub overflow-add-columns : goal.overflow-add-columns
-overflow-add-columns t c =
+pub overflow_add-columns : goal.overflow_add-columns
+overflow_add-columns t c =
     let s = operands (widths_of c.args.query.now) (lines_of c.args.query.now) c.args.line (accepted_ordered (lines_of c.args.query.now) (widths_of c.args.query.now) c.args.query.now.accepted) c.requires.within c.args.place c.line-kind.result c.line-kind.ensures (Inner c.in-Inner.left c.in-Inner.right) c.in-Inner.ensures c.requires.context in
-    let h = small (widths_of c.args.query.now) (breadth c.args.place) c.line-width.result (lines_of c.args.query.now) c.in-Inner.left c.requires.context.marks c.requires.context.long c.line-width.ensures s.0 in
+    let h = small (widths_of c.args.query.now) (breadth c.args.place) c.line_width.result (lines_of c.args.query.now) c.in-Inner.left c.requires.context.marks c.requires.context.long c.line_width.ensures s.0 in
     omega (arith, h, c.columns.ensures)
 
-pub lay-own-requires : goal.lay-own-requires
-lay-own-requires t c = counts (widths_of c.args.query.now) (lines_of c.args.query.now) c.args.line (accepted_ordered (lines_of c.args.query.now) (widths_of c.args.query.now) c.args.query.now.accepted) c.requires.within c.args.place c.line-kind.result c.line-kind.ensures (One c.in-One.rows) c.in-One.ensures c.requires.context
+pub lay_own-requires : goal.lay_own-requires
+lay_own-requires t c = counts (widths_of c.args.query.now) (lines_of c.args.query.now) c.args.line (accepted_ordered (lines_of c.args.query.now) (widths_of c.args.query.now) c.args.query.now.accepted) c.requires.within c.args.place c.line-kind.result c.line-kind.ensures (One c.in-One.rows) c.in-One.ensures c.requires.context
 
-pub lay-own-requires-in-Two : goal.lay-own-requires-in-Two
-lay-own-requires-in-Two t c = counts (widths_of c.args.query.now) (lines_of c.args.query.now) c.args.line (accepted_ordered (lines_of c.args.query.now) (widths_of c.args.query.now) c.args.query.now.accepted) c.requires.within c.args.place c.line-kind.result c.line-kind.ensures (Two c.in-Two.left c.in-Two.right) c.in-Two.ensures c.requires.context
+pub lay_own-requires-in-Two : goal.lay_own-requires-in-Two
+lay_own-requires-in-Two t c = counts (widths_of c.args.query.now) (lines_of c.args.query.now) c.args.line (accepted_ordered (lines_of c.args.query.now) (widths_of c.args.query.now) c.args.query.now.accepted) c.requires.within c.args.place c.line-kind.result c.line-kind.ensures (Two c.in-Two.left c.in-Two.right) c.in-Two.ensures c.requires.context
 
-pub lay-own-requires-in-Tested : goal.lay-own-requires-in-Tested
-lay-own-requires-in-Tested t c = counts (widths_of c.args.query.now) (lines_of c.args.query.now) c.args.line (accepted_ordered (lines_of c.args.query.now) (widths_of c.args.query.now) c.args.query.now.accepted) c.requires.within c.args.place c.line-kind.result c.line-kind.ensures (Tested c.in-Tested.rows c.in-Tested.condition) c.in-Tested.ensures c.requires.context
+pub lay_own-requires-in-Tested : goal.lay_own-requires-in-Tested
+lay_own-requires-in-Tested t c = counts (widths_of c.args.query.now) (lines_of c.args.query.now) c.args.line (accepted_ordered (lines_of c.args.query.now) (widths_of c.args.query.now) c.args.query.now.accepted) c.requires.within c.args.place c.line-kind.result c.line-kind.ensures (Tested c.in-Tested.rows c.in-Tested.condition) c.in-Tested.ensures c.requires.context
 
-pub lay-own-requires-in-default : goal.lay-own-requires-in-default
-lay-own-requires-in-default t c = counts (widths_of c.args.query.now) (lines_of c.args.query.now) c.args.line (accepted_ordered (lines_of c.args.query.now) (widths_of c.args.query.now) c.args.query.now.accepted) c.requires.within c.args.place c.line-kind.result c.line-kind.ensures c.shape.result c.shape.ensures c.requires.context
+pub lay_own-requires-in_default : goal.lay_own-requires-in_default
+lay_own-requires-in_default t c = counts (widths_of c.args.query.now) (lines_of c.args.query.now) c.args.line (accepted_ordered (lines_of c.args.query.now) (widths_of c.args.query.now) c.args.query.now.accepted) c.requires.within c.args.place c.line-kind.result c.line-kind.ensures c.shape.result c.shape.ensures c.requires.context
 
-pub returns-in-default : goal.returns-in-default
-returns-in-default t c =
-    finish (widths_of c.args.query.now) (lines_of c.args.query.now) c.args.line (accepted_ordered (lines_of c.args.query.now) (widths_of c.args.query.now) c.args.query.now.accepted) c.requires.within c.args.place c.line-kind.result c.line-kind.ensures c.shape.result c.shape.ensures _ _ c.lay-own-in-default.result
-    (rest_laid (widths_of c.args.query.now) (grow [] (lines_of c.args.query.now)) c.line-kind.result c.args.place c.shape.result c.in-default.not-One c.in-default.not-Two c.in-default.not-Tested c.in-default.not-Inner _ _ c.lay-own-in-default.result c.lay-own-in-default.ensures)
+pub returns-in_default : goal.returns-in_default
+returns-in_default t c =
+    finish (widths_of c.args.query.now) (lines_of c.args.query.now) c.args.line (accepted_ordered (lines_of c.args.query.now) (widths_of c.args.query.now) c.args.query.now.accepted) c.requires.within c.args.place c.line-kind.result c.line-kind.ensures c.shape.result c.shape.ensures _ _ c.lay_own-in_default.result
+    (rest_laid (widths_of c.args.query.now) (grow [] (lines_of c.args.query.now)) c.line-kind.result c.args.place c.shape.result c.in_default.not-One c.in_default.not-Two c.in_default.not-Tested c.in_default.not-Inner _ _ c.lay_own-in_default.result c.lay_own-in_default.ensures)
 
-pub returns-in-err-one : goal.returns-in-err-one
-returns-in-err-one t c =
-    finish (widths_of c.args.query.now) (lines_of c.args.query.now) c.args.line (accepted_ordered (lines_of c.args.query.now) (widths_of c.args.query.now) c.args.query.now.accepted) c.requires.within c.args.place c.line-kind.result c.line-kind.ensures (One c.in-One.rows) c.in-One.ensures _ _ c.from-residual.result
-    (err_puts _ _ _ c.from-residual.result _ c.from-residual.ensures.1
-    (front_long _ _ _ _ c.in-err-one.ensures))
+pub returns-in_err-one : goal.returns-in_err-one
+returns-in_err-one t c =
+    finish (widths_of c.args.query.now) (lines_of c.args.query.now) c.args.line (accepted_ordered (lines_of c.args.query.now) (widths_of c.args.query.now) c.args.query.now.accepted) c.requires.within c.args.place c.line-kind.result c.line-kind.ensures (One c.in-One.rows) c.in-One.ensures _ _ c.from_residual.result
+    (err_puts _ _ _ c.from_residual.result _ c.from_residual.ensures.1
+    (front_long _ _ _ _ c.in_err-one.ensures))
 
-pub returns-in-err-one-2 : goal.returns-in-err-one-2
-returns-in-err-one-2 t c =
-    finish (widths_of c.args.query.now) (lines_of c.args.query.now) c.args.line (accepted_ordered (lines_of c.args.query.now) (widths_of c.args.query.now) c.args.query.now.accepted) c.requires.within c.args.place c.line-kind.result c.line-kind.ensures (Two c.in-Two.left c.in-Two.right) c.in-Two.ensures _ _ c.from-residual-in-err-one-2.result
-    (err_puts _ _ _ c.from-residual-in-err-one-2.result _ c.from-residual-in-err-one-2.ensures.1
-    (front_long _ _ _ _ c.in-err-one-2.ensures))
+pub returns-in_err-one-2 : goal.returns-in_err-one-2
+returns-in_err-one-2 t c =
+    finish (widths_of c.args.query.now) (lines_of c.args.query.now) c.args.line (accepted_ordered (lines_of c.args.query.now) (widths_of c.args.query.now) c.args.query.now.accepted) c.requires.within c.args.place c.line-kind.result c.line-kind.ensures (Two c.in-Two.left c.in-Two.right) c.in-Two.ensures _ _ c.from_residual-in_err-one-2.result
+    (err_puts _ _ _ c.from_residual-in_err-one-2.result _ c.from_residual-in_err-one-2.ensures.1
+    (front_long _ _ _ _ c.in_err-one-2.ensures))
 
-pub returns-in-err-one-3 : goal.returns-in-err-one-3
-returns-in-err-one-3 t c =
-    finish (widths_of c.args.query.now) (lines_of c.args.query.now) c.args.line (accepted_ordered (lines_of c.args.query.now) (widths_of c.args.query.now) c.args.query.now.accepted) c.requires.within c.args.place c.line-kind.result c.line-kind.ensures (Tested c.in-Tested.rows c.in-Tested.condition) c.in-Tested.ensures _ _ c.from-residual-in-err-one-3.result
-    (err_puts _ _ _ c.from-residual-in-err-one-3.result _ c.from-residual-in-err-one-3.ensures.1
-    (front_long _ _ _ _ c.in-err-one-3.ensures))
+pub returns-in_err-one-3 : goal.returns-in_err-one-3
+returns-in_err-one-3 t c =
+    finish (widths_of c.args.query.now) (lines_of c.args.query.now) c.args.line (accepted_ordered (lines_of c.args.query.now) (widths_of c.args.query.now) c.args.query.now.accepted) c.requires.within c.args.place c.line-kind.result c.line-kind.ensures (Tested c.in-Tested.rows c.in-Tested.condition) c.in-Tested.ensures _ _ c.from_residual-in_err-one-3.result
+    (err_puts _ _ _ c.from_residual-in_err-one-3.result _ c.from_residual-in_err-one-3.ensures.1
+    (front_long _ _ _ _ c.in_err-one-3.ensures))
 
-pub returns-in-err-one-4 : goal.returns-in-err-one-4
-returns-in-err-one-4 t c =
-    finish (widths_of c.args.query.now) (lines_of c.args.query.now) c.args.line (accepted_ordered (lines_of c.args.query.now) (widths_of c.args.query.now) c.args.query.now.accepted) c.requires.within c.args.place c.line-kind.result c.line-kind.ensures (Inner c.in-Inner.left c.in-Inner.right) c.in-Inner.ensures _ _ c.from-residual-in-err-one-4.result
-    (err_puts _ _ _ c.from-residual-in-err-one-4.result _ c.from-residual-in-err-one-4.ensures.1
-    (front_long _ _ _ _ c.in-err-one-4.ensures))
+pub returns-in_err-one-4 : goal.returns-in_err-one-4
+returns-in_err-one-4 t c =
+    finish (widths_of c.args.query.now) (lines_of c.args.query.now) c.args.line (accepted_ordered (lines_of c.args.query.now) (widths_of c.args.query.now) c.args.query.now.accepted) c.requires.within c.args.place c.line-kind.result c.line-kind.ensures (Inner c.in-Inner.left c.in-Inner.right) c.in-Inner.ensures _ _ c.from_residual-in_err-one-4.result
+    (err_puts _ _ _ c.from_residual-in_err-one-4.result _ c.from_residual-in_err-one-4.ensures.1
+    (front_long _ _ _ _ c.in_err-one-4.ensures))
 
-pub returns-in-err-two : goal.returns-in-err-two
-returns-in-err-two t c =
-    finish (widths_of c.args.query.now) (lines_of c.args.query.now) c.args.line (accepted_ordered (lines_of c.args.query.now) (widths_of c.args.query.now) c.args.query.now.accepted) c.requires.within c.args.place c.line-kind.result c.line-kind.ensures (Two c.in-Two.left c.in-Two.right) c.in-Two.ensures _ _ c.from-residual-in-err-two.result
-    (err_puts _ _ _ c.from-residual-in-err-two.result _ c.from-residual-in-err-two.ensures.1
-    (second_long _ _ _ (emit (widths_of c.args.query.now) (tree_at (lines_of c.args.query.now) c.in-Two.right) c.args.place) (λ h j n. own_lines c.line-kind.result c.args.place h j n) _ _ c.in-ok-one-2.ensures c.in-err-two.ensures))
+pub returns-in_err-two : goal.returns-in_err-two
+returns-in_err-two t c =
+    finish (widths_of c.args.query.now) (lines_of c.args.query.now) c.args.line (accepted_ordered (lines_of c.args.query.now) (widths_of c.args.query.now) c.args.query.now.accepted) c.requires.within c.args.place c.line-kind.result c.line-kind.ensures (Two c.in-Two.left c.in-Two.right) c.in-Two.ensures _ _ c.from_residual-in_err-two.result
+    (err_puts _ _ _ c.from_residual-in_err-two.result _ c.from_residual-in_err-two.ensures.1
+    (second_long _ _ _ (emit (widths_of c.args.query.now) (tree_at (lines_of c.args.query.now) c.in-Two.right) c.args.place) (λ h j n. own_lines c.line-kind.result c.args.place h j n) _ _ c.in_ok-one-2.ensures c.in_err-two.ensures))
 
-pub returns-in-err-test : goal.returns-in-err-test
-returns-in-err-test t c =
-    finish (widths_of c.args.query.now) (lines_of c.args.query.now) c.args.line (accepted_ordered (lines_of c.args.query.now) (widths_of c.args.query.now) c.args.query.now.accepted) c.requires.within c.args.place c.line-kind.result c.line-kind.ensures (Tested c.in-Tested.rows c.in-Tested.condition) c.in-Tested.ensures _ _ c.from-residual-in-err-test.result
-    (err_puts _ _ _ c.from-residual-in-err-test.result _ c.from-residual-in-err-test.ensures.1
-    (second_long _ _ _ (emit_condition (as_cond (at (grow [] (lines_of c.args.query.now)) c.in-Tested.condition))) (λ h j n. own_lines c.line-kind.result c.args.place h j n) _ _ c.in-ok-one-3.ensures c.in-err-test.ensures))
+pub returns-in_err-test : goal.returns-in_err-test
+returns-in_err-test t c =
+    finish (widths_of c.args.query.now) (lines_of c.args.query.now) c.args.line (accepted_ordered (lines_of c.args.query.now) (widths_of c.args.query.now) c.args.query.now.accepted) c.requires.within c.args.place c.line-kind.result c.line-kind.ensures (Tested c.in-Tested.rows c.in-Tested.condition) c.in-Tested.ensures _ _ c.from_residual-in_err-test.result
+    (err_puts _ _ _ c.from_residual-in_err-test.result _ c.from_residual-in_err-test.ensures.1
+    (second_long _ _ _ (emit_condition (as_cond (at (grow [] (lines_of c.args.query.now)) c.in-Tested.condition))) (λ h j n. own_lines c.line-kind.result c.args.place h j n) _ _ c.in_ok-one-3.ensures c.in_err-test.ensures))
 
-pub returns-in-err-domain : goal.returns-in-err-domain
-returns-in-err-domain t c =
-    finish (widths_of c.args.query.now) (lines_of c.args.query.now) c.args.line (accepted_ordered (lines_of c.args.query.now) (widths_of c.args.query.now) c.args.query.now.accepted) c.requires.within c.args.place c.line-kind.result c.line-kind.ensures (Inner c.in-Inner.left c.in-Inner.right) c.in-Inner.ensures _ _ c.from-residual-in-err-domain.result
-    (err_puts _ _ _ c.from-residual-in-err-domain.result _ c.from-residual-in-err-domain.ensures.1
-    (chained _ _ [] _ c.in-ok-one-4.one
+pub returns-in_err-domain : goal.returns-in_err-domain
+returns-in_err-domain t c =
+    finish (widths_of c.args.query.now) (lines_of c.args.query.now) c.args.line (accepted_ordered (lines_of c.args.query.now) (widths_of c.args.query.now) c.args.query.now.accepted) c.requires.within c.args.place c.line-kind.result c.line-kind.ensures (Inner c.in-Inner.left c.in-Inner.right) c.in-Inner.ensures _ _ c.from_residual-in_err-domain.result
+    (err_puts _ _ _ c.from_residual-in_err-domain.result _ c.from_residual-in_err-domain.ensures.1
+    (chained _ _ [] _ c.in_ok-one-4.one
     (λ h i. Distinct h ∷ chain (i + 1) (emit (widths_of c.args.query.now) (tree_at (lines_of c.args.query.now) c.in-Inner.right) (inside (breadth c.args.place + width (widths_of c.args.query.now) (tree_at (lines_of c.args.query.now) c.in-Inner.left)) i) (i + 1)) (λ j. apply_own c.line-kind.result (breadth c.args.place + width (widths_of c.args.query.now) (tree_at (lines_of c.args.query.now) c.in-Inner.left)) (width (widths_of c.args.query.now) (tree_at (lines_of c.args.query.now) c.in-Inner.right)) h (j - 1) j))
-    (Err _) c.in-ok-one-4.ensures (front_long _ (Distinct c.in-ok-one-4.one ∷ []) _ _ c.in-err-domain.ensures)))
+    (Err _) c.in_ok-one-4.ensures (front_long _ (Distinct c.in_ok-one-4.one ∷ []) _ _ c.in_err-domain.ensures)))
 
-pub returns-in-err-two-2 : goal.returns-in-err-two-2
-returns-in-err-two-2 t c =
-    finish (widths_of c.args.query.now) (lines_of c.args.query.now) c.args.line (accepted_ordered (lines_of c.args.query.now) (widths_of c.args.query.now) c.args.query.now.accepted) c.requires.within c.args.place c.line-kind.result c.line-kind.ensures (Inner c.in-Inner.left c.in-Inner.right) c.in-Inner.ensures _ _ c.from-residual-in-err-two-2.result
-    (err_puts _ _ _ c.from-residual-in-err-two-2.result _ c.from-residual-in-err-two-2.ensures.1
-    (inner_then (widths_of c.args.query.now) (lines_of c.args.query.now) c.line-kind.result c.args.place c.in-Inner.left c.in-Inner.right (c.columns.result + c.line-width.result) _ _ _ [] c.in-ok-one-4.one c.in-ok-domain.domain (Err _) (ap₂ ◌+◌ c.columns.ensures c.line-width.ensures)
-    c.in-ok-one-4.ensures c.in-ok-domain.ensures (front_long _ _ _ _ c.in-err-two-2.ensures)))
+pub returns-in_err-two-2 : goal.returns-in_err-two-2
+returns-in_err-two-2 t c =
+    finish (widths_of c.args.query.now) (lines_of c.args.query.now) c.args.line (accepted_ordered (lines_of c.args.query.now) (widths_of c.args.query.now) c.args.query.now.accepted) c.requires.within c.args.place c.line-kind.result c.line-kind.ensures (Inner c.in-Inner.left c.in-Inner.right) c.in-Inner.ensures _ _ c.from_residual-in_err-two-2.result
+    (err_puts _ _ _ c.from_residual-in_err-two-2.result _ c.from_residual-in_err-two-2.ensures.1
+    (inner_then (widths_of c.args.query.now) (lines_of c.args.query.now) c.line-kind.result c.args.place c.in-Inner.left c.in-Inner.right (c.columns.result + c.line_width.result) _ _ _ [] c.in_ok-one-4.one c.in_ok-domain.domain (Err _) (ap₂ ◌+◌ c.columns.ensures c.line_width.ensures)
+    c.in_ok-one-4.ensures c.in_ok-domain.ensures (front_long _ _ _ _ c.in_err-two-2.ensures)))
 
-pub returns-in-ok-one : goal.returns-in-ok-one
-returns-in-ok-one t c =
-    finish (widths_of c.args.query.now) (lines_of c.args.query.now) c.args.line (accepted_ordered (lines_of c.args.query.now) (widths_of c.args.query.now) c.args.query.now.accepted) c.requires.within c.args.place c.line-kind.result c.line-kind.ensures (One c.in-One.rows) c.in-One.ensures _ _ c.lay-own.result
-    (one_laid (widths_of c.args.query.now) (lines_of c.args.query.now) c.line-kind.result c.args.place c.in-One.rows _ _ _ c.in-ok-one.one c.lay-own.result c.in-ok-one.ensures c.lay-own.ensures)
+pub returns-in_ok-one : goal.returns-in_ok-one
+returns-in_ok-one t c =
+    finish (widths_of c.args.query.now) (lines_of c.args.query.now) c.args.line (accepted_ordered (lines_of c.args.query.now) (widths_of c.args.query.now) c.args.query.now.accepted) c.requires.within c.args.place c.line-kind.result c.line-kind.ensures (One c.in-One.rows) c.in-One.ensures _ _ c.lay_own.result
+    (one_laid (widths_of c.args.query.now) (lines_of c.args.query.now) c.line-kind.result c.args.place c.in-One.rows _ _ _ c.in_ok-one.one c.lay_own.result c.in_ok-one.ensures c.lay_own.ensures)
 
-pub returns-in-ok-two : goal.returns-in-ok-two
-returns-in-ok-two t c =
-    finish (widths_of c.args.query.now) (lines_of c.args.query.now) c.args.line (accepted_ordered (lines_of c.args.query.now) (widths_of c.args.query.now) c.args.query.now.accepted) c.requires.within c.args.place c.line-kind.result c.line-kind.ensures (Two c.in-Two.left c.in-Two.right) c.in-Two.ensures _ _ c.lay-own-in-Two.result
-    (two_laid (widths_of c.args.query.now) (lines_of c.args.query.now) c.line-kind.result c.args.place c.in-Two.left c.in-Two.right _ _ _ _ c.in-ok-one-2.one c.in-ok-two.two c.lay-own-in-Two.result
-    c.in-ok-one-2.ensures c.in-ok-two.ensures c.lay-own-in-Two.ensures)
+pub returns-in_ok-two : goal.returns-in_ok-two
+returns-in_ok-two t c =
+    finish (widths_of c.args.query.now) (lines_of c.args.query.now) c.args.line (accepted_ordered (lines_of c.args.query.now) (widths_of c.args.query.now) c.args.query.now.accepted) c.requires.within c.args.place c.line-kind.result c.line-kind.ensures (Two c.in-Two.left c.in-Two.right) c.in-Two.ensures _ _ c.lay_own-in-Two.result
+    (two_laid (widths_of c.args.query.now) (lines_of c.args.query.now) c.line-kind.result c.args.place c.in-Two.left c.in-Two.right _ _ _ _ c.in_ok-one-2.one c.in_ok-two.two c.lay_own-in-Two.result
+    c.in_ok-one-2.ensures c.in_ok-two.ensures c.lay_own-in-Two.ensures)
 
-pub returns-in-ok-test : goal.returns-in-ok-test
-returns-in-ok-test t c =
-    finish (widths_of c.args.query.now) (lines_of c.args.query.now) c.args.line (accepted_ordered (lines_of c.args.query.now) (widths_of c.args.query.now) c.args.query.now.accepted) c.requires.within c.args.place c.line-kind.result c.line-kind.ensures (Tested c.in-Tested.rows c.in-Tested.condition) c.in-Tested.ensures _ _ c.lay-own-in-Tested.result
-    (tested_laid (widths_of c.args.query.now) (lines_of c.args.query.now) c.line-kind.result c.args.place c.in-Tested.rows c.in-Tested.condition _ _ _ _ c.in-ok-one-3.one c.in-ok-test.test c.lay-own-in-Tested.result
-    c.in-ok-one-3.ensures c.in-ok-test.ensures c.lay-own-in-Tested.ensures)
+pub returns-in_ok-test : goal.returns-in_ok-test
+returns-in_ok-test t c =
+    finish (widths_of c.args.query.now) (lines_of c.args.query.now) c.args.line (accepted_ordered (lines_of c.args.query.now) (widths_of c.args.query.now) c.args.query.now.accepted) c.requires.within c.args.place c.line-kind.result c.line-kind.ensures (Tested c.in-Tested.rows c.in-Tested.condition) c.in-Tested.ensures _ _ c.lay_own-in-Tested.result
+    (tested_laid (widths_of c.args.query.now) (lines_of c.args.query.now) c.line-kind.result c.args.place c.in-Tested.rows c.in-Tested.condition _ _ _ _ c.in_ok-one-3.one c.in_ok-test.test c.lay_own-in-Tested.result
+    c.in_ok-one-3.ensures c.in_ok-test.ensures c.lay_own-in-Tested.ensures)
 
-pub returns-in-ok-two-2 : goal.returns-in-ok-two-2
-returns-in-ok-two-2 t c =
-    finish (widths_of c.args.query.now) (lines_of c.args.query.now) c.args.line (accepted_ordered (lines_of c.args.query.now) (widths_of c.args.query.now) c.args.query.now.accepted) c.requires.within c.args.place c.line-kind.result c.line-kind.ensures (Inner c.in-Inner.left c.in-Inner.right) c.in-Inner.ensures _ _ c.lay-apply.result
-    (inner_laid (widths_of c.args.query.now) (lines_of c.args.query.now) c.line-kind.result c.args.place c.in-Inner.left c.in-Inner.right (c.columns.result + c.line-width.result) c.line-width-in-Inner.result _ _ _ _ _
-    c.in-ok-one-4.one c.in-ok-domain.domain c.in-ok-two-2.two c.lay-apply.result (ap₂ ◌+◌ c.columns.ensures c.line-width.ensures) c.line-width-in-Inner.ensures
-    c.in-ok-one-4.ensures c.in-ok-domain.ensures c.in-ok-two-2.ensures c.lay-apply.ensures)
+pub returns-in_ok-two-2 : goal.returns-in_ok-two-2
+returns-in_ok-two-2 t c =
+    finish (widths_of c.args.query.now) (lines_of c.args.query.now) c.args.line (accepted_ordered (lines_of c.args.query.now) (widths_of c.args.query.now) c.args.query.now.accepted) c.requires.within c.args.place c.line-kind.result c.line-kind.ensures (Inner c.in-Inner.left c.in-Inner.right) c.in-Inner.ensures _ _ c.lay_apply.result
+    (inner_laid (widths_of c.args.query.now) (lines_of c.args.query.now) c.line-kind.result c.args.place c.in-Inner.left c.in-Inner.right (c.columns.result + c.line_width.result) c.line_width-in-Inner.result _ _ _ _ _
+    c.in_ok-one-4.one c.in_ok-domain.domain c.in_ok-two-2.two c.lay_apply.result (ap₂ ◌+◌ c.columns.ensures c.line_width.ensures) c.line_width-in-Inner.ensures
+    c.in_ok-one-4.ensures c.in_ok-domain.ensures c.in_ok-two-2.ensures c.lay_apply.ensures)

@@ -9,73 +9,73 @@ use Rattle.unnest.proofs.Operands.{line_is}
 use Rattle.unnest.proofs.Puts.{err_puts, front_long, second_long, one_put, two_put}
 use Rattle.unnest.proofs.emit.+emit_condition.Goals as goal
 
-pub emit-condition-requires : goal.emit-condition-requires
-emit-condition-requires t c =
+pub emit_condition-requires : goal.emit_condition-requires
+emit_condition-requires t c =
     let f = line_is (lines_of c.args.query.now) c.args.line _ (accepted_ordered (lines_of c.args.query.now) (widths_of c.args.query.now) c.args.query.now.accepted) c.requires (sym c.in-Not.ensures) in
     (omega (arith, f.0, c.decreases), omega (arith, f.0, c.requires))
 
-pub emit-condition-requires-in-Unknown : goal.emit-condition-requires-in-Unknown
-emit-condition-requires-in-Unknown t c =
+pub emit_condition-requires-in-Unknown : goal.emit_condition-requires-in-Unknown
+emit_condition-requires-in-Unknown t c =
     let f = line_is (lines_of c.args.query.now) c.args.line _ (accepted_ordered (lines_of c.args.query.now) (widths_of c.args.query.now) c.args.query.now.accepted) c.requires (sym c.in-Unknown.ensures) in
     (omega (arith, f.0, c.decreases), omega (arith, f.0, c.requires))
 
-pub emit-condition-requires-in-And : goal.emit-condition-requires-in-And
-emit-condition-requires-in-And t c =
+pub emit_condition-requires-in-And : goal.emit_condition-requires-in-And
+emit_condition-requires-in-And t c =
     let f = line_is (lines_of c.args.query.now) c.args.line _ (accepted_ordered (lines_of c.args.query.now) (widths_of c.args.query.now) c.args.query.now.accepted) c.requires (sym c.in-And.ensures) in
     (omega (arith, f.0.0, c.decreases), omega (arith, f.0.0, c.requires))
 
-pub emit-condition-requires-in-And-2 : goal.emit-condition-requires-in-And-2
-emit-condition-requires-in-And-2 t c =
+pub emit_condition-requires-in-And-2 : goal.emit_condition-requires-in-And-2
+emit_condition-requires-in-And-2 t c =
     let f = line_is (lines_of c.args.query.now) c.args.line _ (accepted_ordered (lines_of c.args.query.now) (widths_of c.args.query.now) c.args.query.now.accepted) c.requires (sym c.in-And.ensures) in
     (omega (arith, f.0.1, c.decreases), omega (arith, f.0.1, c.requires))
 
-pub emit-condition-requires-in-Or : goal.emit-condition-requires-in-Or
-emit-condition-requires-in-Or t c =
+pub emit_condition-requires-in-Or : goal.emit_condition-requires-in-Or
+emit_condition-requires-in-Or t c =
     let f = line_is (lines_of c.args.query.now) c.args.line _ (accepted_ordered (lines_of c.args.query.now) (widths_of c.args.query.now) c.args.query.now.accepted) c.requires (sym c.in-Or.ensures) in
     (omega (arith, f.0.0, c.decreases), omega (arith, f.0.0, c.requires))
 
-pub emit-condition-requires-in-Or-2 : goal.emit-condition-requires-in-Or-2
-emit-condition-requires-in-Or-2 t c =
+pub emit_condition-requires-in-Or-2 : goal.emit_condition-requires-in-Or-2
+emit_condition-requires-in-Or-2 t c =
     let f = line_is (lines_of c.args.query.now) c.args.line _ (accepted_ordered (lines_of c.args.query.now) (widths_of c.args.query.now) c.args.query.now.accepted) c.requires (sym c.in-Or.ensures) in
     (omega (arith, f.0.1, c.decreases), omega (arith, f.0.1, c.requires))
 
-pub returns-in-err-part : goal.returns-in-err-part
+pub returns-in_err-part : goal.returns-in_err-part
 unfolding build emit_condition
-returns-in-err-part t c =
+returns-in_err-part t c =
     let f = line_is (lines_of c.args.query.now) c.args.line _ (accepted_ordered (lines_of c.args.query.now) (widths_of c.args.query.now) c.args.query.now.accepted) c.requires (sym c.in-Not.ensures) in
-    rw f.1 (err_puts _ _ _ c.from-residual.result _ c.from-residual.ensures.1 (front_long _ _ _ _ c.in-err-part.ensures))
+    rw f.1 (err_puts _ _ _ c.from_residual.result _ c.from_residual.ensures.1 (front_long _ _ _ _ c.in_err-part.ensures))
 
-pub returns-in-err-part-2 : goal.returns-in-err-part-2
+pub returns-in_err-part-2 : goal.returns-in_err-part-2
 unfolding build emit_condition
-returns-in-err-part-2 t c =
+returns-in_err-part-2 t c =
     let f = line_is (lines_of c.args.query.now) c.args.line _ (accepted_ordered (lines_of c.args.query.now) (widths_of c.args.query.now) c.args.query.now.accepted) c.requires (sym c.in-Unknown.ensures) in
-    rw f.1 (err_puts _ _ _ c.from-residual-in-err-part-2.result _ c.from-residual-in-err-part-2.ensures.1 (front_long _ _ _ _ c.in-err-part-2.ensures))
+    rw f.1 (err_puts _ _ _ c.from_residual-in_err-part-2.result _ c.from_residual-in_err-part-2.ensures.1 (front_long _ _ _ _ c.in_err-part-2.ensures))
 
-pub returns-in-err-one : goal.returns-in-err-one
+pub returns-in_err-one : goal.returns-in_err-one
 unfolding build emit_condition
-returns-in-err-one t c =
+returns-in_err-one t c =
     let f = line_is (lines_of c.args.query.now) c.args.line _ (accepted_ordered (lines_of c.args.query.now) (widths_of c.args.query.now) c.args.query.now.accepted) c.requires (sym c.in-And.ensures) in
-    rw f.1 (err_puts _ _ _ c.from-residual-in-err-one.result _ c.from-residual-in-err-one.ensures.1 (front_long _ _ _ _ c.in-err-one.ensures))
+    rw f.1 (err_puts _ _ _ c.from_residual-in_err-one.result _ c.from_residual-in_err-one.ensures.1 (front_long _ _ _ _ c.in_err-one.ensures))
 
-pub returns-in-err-two : goal.returns-in-err-two
+pub returns-in_err-two : goal.returns-in_err-two
 unfolding build emit_condition
-returns-in-err-two t c =
+returns-in_err-two t c =
     let f = line_is (lines_of c.args.query.now) c.args.line _ (accepted_ordered (lines_of c.args.query.now) (widths_of c.args.query.now) c.args.query.now.accepted) c.requires (sym c.in-And.ensures) in
-    rw f.1 (err_puts _ _ _ c.from-residual-in-err-two.result _ c.from-residual-in-err-two.ensures.1
-    (second_long _ _ _ (emit_condition (as_cond (at (grow [] (lines_of c.args.query.now)) c.in-And.right))) (λ i j n. And i j ∷ []) _ _ c.in-ok-one.ensures c.in-err-two.ensures))
+    rw f.1 (err_puts _ _ _ c.from_residual-in_err-two.result _ c.from_residual-in_err-two.ensures.1
+    (second_long _ _ _ (emit_condition (as_cond (at (grow [] (lines_of c.args.query.now)) c.in-And.right))) (λ i j n. And i j ∷ []) _ _ c.in_ok-one.ensures c.in_err-two.ensures))
 
-pub returns-in-err-one-2 : goal.returns-in-err-one-2
+pub returns-in_err-one-2 : goal.returns-in_err-one-2
 unfolding build emit_condition
-returns-in-err-one-2 t c =
+returns-in_err-one-2 t c =
     let f = line_is (lines_of c.args.query.now) c.args.line _ (accepted_ordered (lines_of c.args.query.now) (widths_of c.args.query.now) c.args.query.now.accepted) c.requires (sym c.in-Or.ensures) in
-    rw f.1 (err_puts _ _ _ c.from-residual-in-err-one-2.result _ c.from-residual-in-err-one-2.ensures.1 (front_long _ _ _ _ c.in-err-one-2.ensures))
+    rw f.1 (err_puts _ _ _ c.from_residual-in_err-one-2.result _ c.from_residual-in_err-one-2.ensures.1 (front_long _ _ _ _ c.in_err-one-2.ensures))
 
-pub returns-in-err-two-2 : goal.returns-in-err-two-2
+pub returns-in_err-two-2 : goal.returns-in_err-two-2
 unfolding build emit_condition
-returns-in-err-two-2 t c =
+returns-in_err-two-2 t c =
     let f = line_is (lines_of c.args.query.now) c.args.line _ (accepted_ordered (lines_of c.args.query.now) (widths_of c.args.query.now) c.args.query.now.accepted) c.requires (sym c.in-Or.ensures) in
-    rw f.1 (err_puts _ _ _ c.from-residual-in-err-two-2.result _ c.from-residual-in-err-two-2.ensures.1
-    (second_long _ _ _ (emit_condition (as_cond (at (grow [] (lines_of c.args.query.now)) c.in-Or.right))) (λ i j n. Or i j ∷ []) _ _ c.in-ok-one-2.ensures c.in-err-two-2.ensures))
+    rw f.1 (err_puts _ _ _ c.from_residual-in_err-two-2.result _ c.from_residual-in_err-two-2.ensures.1
+    (second_long _ _ _ (emit_condition (as_cond (at (grow [] (lines_of c.args.query.now)) c.in-Or.right))) (λ i j n. Or i j ∷ []) _ _ c.in_ok-one-2.ensures c.in_err-two-2.ensures))
 
 pub returns-in-Compare : goal.returns-in-Compare
 unfolding build emit_condition
@@ -89,34 +89,34 @@ returns-in-IsNull t c =
     let f = line_is (lines_of c.args.query.now) c.args.line _ (accepted_ordered (lines_of c.args.query.now) (widths_of c.args.query.now) c.args.query.now.accepted) c.requires (sym c.in-IsNull.ensures) in
     rw f.1 c.push-in-IsNull.ensures
 
-pub returns-in-ok-part : goal.returns-in-ok-part
+pub returns-in_ok-part : goal.returns-in_ok-part
 unfolding build emit_condition
-returns-in-ok-part t c =
+returns-in_ok-part t c =
     let f = line_is (lines_of c.args.query.now) c.args.line _ (accepted_ordered (lines_of c.args.query.now) (widths_of c.args.query.now) c.args.query.now.accepted) c.requires (sym c.in-Not.ensures) in
-    rw f.1 (one_put Not _ _ _ _ _ c.push-in-Not.result c.in-ok-part.ensures c.push-in-Not.ensures)
+    rw f.1 (one_put Not _ _ _ _ _ c.push-in-Not.result c.in_ok-part.ensures c.push-in-Not.ensures)
 
-pub returns-in-ok-part-2 : goal.returns-in-ok-part-2
+pub returns-in_ok-part-2 : goal.returns-in_ok-part-2
 unfolding build emit_condition
-returns-in-ok-part-2 t c =
+returns-in_ok-part-2 t c =
     let f = line_is (lines_of c.args.query.now) c.args.line _ (accepted_ordered (lines_of c.args.query.now) (widths_of c.args.query.now) c.args.query.now.accepted) c.requires (sym c.in-Unknown.ensures) in
-    rw f.1 (one_put Unknown _ _ _ _ _ c.push-in-Unknown.result c.in-ok-part-2.ensures c.push-in-Unknown.ensures)
+    rw f.1 (one_put Unknown _ _ _ _ _ c.push-in-Unknown.result c.in_ok-part-2.ensures c.push-in-Unknown.ensures)
 
-pub returns-in-ok-two : goal.returns-in-ok-two
+pub returns-in_ok-two : goal.returns-in_ok-two
 unfolding build emit_condition
-returns-in-ok-two t c =
+returns-in_ok-two t c =
     let f = line_is (lines_of c.args.query.now) c.args.line _ (accepted_ordered (lines_of c.args.query.now) (widths_of c.args.query.now) c.args.query.now.accepted) c.requires (sym c.in-And.ensures) in
-    rw f.1 (two_put And _ _ _ _ _ (emit_condition (as_cond (at (grow [] (lines_of c.args.query.now)) c.in-And.right))) _ _ c.push-in-And.result c.in-ok-one.ensures c.in-ok-two.ensures c.push-in-And.ensures)
+    rw f.1 (two_put And _ _ _ _ _ (emit_condition (as_cond (at (grow [] (lines_of c.args.query.now)) c.in-And.right))) _ _ c.push-in-And.result c.in_ok-one.ensures c.in_ok-two.ensures c.push-in-And.ensures)
 
-pub returns-in-ok-two-2 : goal.returns-in-ok-two-2
+pub returns-in_ok-two-2 : goal.returns-in_ok-two-2
 unfolding build emit_condition
-returns-in-ok-two-2 t c =
+returns-in_ok-two-2 t c =
     let f = line_is (lines_of c.args.query.now) c.args.line _ (accepted_ordered (lines_of c.args.query.now) (widths_of c.args.query.now) c.args.query.now.accepted) c.requires (sym c.in-Or.ensures) in
-    rw f.1 (two_put Or _ _ _ _ _ (emit_condition (as_cond (at (grow [] (lines_of c.args.query.now)) c.in-Or.right))) _ _ c.push-in-Or.result c.in-ok-one-2.ensures c.in-ok-two-2.ensures c.push-in-Or.ensures)
+    rw f.1 (two_put Or _ _ _ _ _ (emit_condition (as_cond (at (grow [] (lines_of c.args.query.now)) c.in-Or.right))) _ _ c.push-in-Or.result c.in_ok-one-2.ensures c.in_ok-two-2.ensures c.push-in-Or.ensures)
 
-pub returns-in-default : goal.returns-in-default
+pub returns-in_default : goal.returns-in_default
 unfolding emit_condition
-returns-in-default t c =
-    let r = c.in-default in
+returns-in_default t c =
+    let r = c.in_default in
     let f = line_is (lines_of c.args.query.now) c.args.line c.line.result (accepted_ordered (lines_of c.args.query.now) (widths_of c.args.query.now) c.args.query.now.accepted) c.requires (sym c.line.ensures) in
     rw (f.1, no_condition (grow [] (lines_of c.args.query.now)) c.line.result r.not-Compare r.not-IsNull r.not-Not r.not-Unknown r.not-And r.not-Or)
-    c.push-in-default.ensures
+    c.push-in_default.ensures

@@ -5,8 +5,8 @@ use Rattle.unnest.proofs.Laws.{lifted_law}
 use Rattle.unnest.proofs.Whole.{at_top, whole_so}
 use Rattle.unnest.proofs.unnesting.emit_answer.Goals as goal
 
-pub overflow-sub-size : goal.overflow-sub-size
-overflow-sub-size c =
+pub overflow_sub-size : goal.overflow_sub-size
+overflow_sub-size c =
     let q = c.args.query.now in
     omega (arith, (accepted_counted (lines_of q) (widths_of q) q.accepted).0, c.size.ensures)
 

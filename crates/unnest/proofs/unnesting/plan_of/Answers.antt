@@ -4,18 +4,18 @@ use Rattle.query.proofs.Sounds.{sound_answer}
 use Rattle.unnest.proofs.Whole.{formed_so, unnested_so, least_so, most_so, few_so}
 use Rattle.unnest.proofs.unnesting.plan_of.Goals as goal
 
-pub invariant-of-result : goal.invariant-of-result
-invariant-of-result c =
+pub invariant_of-result : goal.invariant_of-result
+invariant_of-result c =
     let q = c.args.query.now in
-    let n = c.table-count.result in
-    let e = c.table-count.ensures in
-    let vs = c.table-widths-widths.result in
-    let f : take n vs ≡ widths_of q = ap (λ v. take v vs) e ∙ c.table-widths-widths.ensures.same in (
+    let n = c.table_count.result in
+    let e = c.table_count.ensures in
+    let vs = c.table_widths-widths.result in
+    let f : take n vs ≡ widths_of q = ap (λ v. take v vs) e ∙ c.table_widths-widths.ensures.same in (
       c.args.room.full,
       (
         c.args.room.few,
         (
-          c.table-widths-widths.ensures.long,
+          c.table_widths-widths.ensures.long,
           (
             few_so q n e,
             (
@@ -35,4 +35,4 @@ invariant-of-result c =
 
 pub returns : goal.returns
 returns c =
-    unnested_so c.args.query.now _ c.requires (ap (λ v. take v c.table-widths-widths.result) c.table-count.ensures ∙ c.table-widths-widths.ensures.same)
+    unnested_so c.args.query.now _ c.requires (ap (λ v. take v c.table_widths-widths.result) c.table_count.ensures ∙ c.table_widths-widths.ensures.same)

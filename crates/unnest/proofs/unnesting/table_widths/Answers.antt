@@ -8,7 +8,7 @@ pub loop-t-preserved : goal.loop-t-preserved
 loop-t-preserved c =
     let q = c.args.query.now in
     let n = length-take-le q.stocked q.tables (omega (arith, q.stock, q.broad)) in (
-      widths_more (widths_of c.args.query.now) c.loop-t.all c.loop-t.t _ c.loop-t.invariant.0 c.table-width.ensures (omega (arith, n, q.stock, c.table-count-t-end.ensures)) (omega (arith, c.table-count-t-end.ensures)),
+      widths_more (widths_of c.args.query.now) c.loop-t.all c.loop-t.t _ c.loop-t.invariant.0 c.table_width.ensures (omega (arith, n, q.stock, c.table_count-t-end.ensures)) (omega (arith, c.table_count-t-end.ensures)),
       length-set c.loop-t.all c.loop-t.t _ ∙ c.loop-t.invariant.1,
     )
 
@@ -16,5 +16,5 @@ pub returns : goal.returns
 returns c =
     record {
       long = c.loop-t.invariant.1;
-      same = widths_all (widths_of c.args.query.now) c.loop-t.all c.loop-t.t c.loop-t.invariant.0 (omega (arith, c.table-count-t-end.ensures));
+      same = widths_all (widths_of c.args.query.now) c.loop-t.all c.loop-t.t c.loop-t.invariant.0 (omega (arith, c.table_count-t-end.ensures));
     }

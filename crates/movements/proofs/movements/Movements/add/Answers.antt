@@ -13,7 +13,7 @@ pub padded-requires : goal.padded-requires
 padded-requires g c =
     let s = c.args.self.now in
     let ts = shown g.S.Stock.tables s in
-    let p = right_row c.width.result c.args.row.now (sym c.in-default.ensures) in
+    let p = right_row c.width.result c.args.row.now (sym c.in_default.ensures) in
     let w = small_width ts c.args.table (moved_lawful (items_of s.added) (items_of s.hidden) (g.S.Stock.tables s.below) (g.S.Stock.lawful s.below)) in
     let e = p.0 in
     (omega arith, p.1)
@@ -27,7 +27,7 @@ returns g c =
     let ms = items_of s.added in
     let hs = items_of s.hidden in
     let ts = shown g.S.Stock.tables s in
-    let p = right_row c.width.result row (sym c.in-default.ensures) in
+    let p = right_row c.width.result row (sym c.in_default.ensures) in
     let e : length row ≡ width_of base t = p.0 ∙ c.width.ensures ∙ width_moved t ms hs base in
     let front : take (width_of base t) c.padded.result ≡ row = ap (λ k. take k c.padded.result) (sym e) ∙ c.padded.ensures.front in
     let l = length_moved ms hs base in
@@ -38,7 +38,7 @@ returns g c =
     let shows = ap (λ x. moved x hs base) after ∙ added_shows ms _ hs t base row refl in' front (omega arith) in
     let rows = ap (λ x. rows_of x t) shows ∙ ap length (rows_changed (λ rs. rs ++ row ∷ []) ts t (omega arith)) ∙ length-append (rows_at ts t) (row ∷ []) in
     record {
-      shows = (add_none ts s.added.count t row (omega arith) (rw c.width.ensures at (sym c.in-default.ensures)) (omega arith) (omega arith), shows, omega arith, refl);
+      shows = (add_none ts s.added.count t row (omega arith) (rw c.width.ensures at (sym c.in_default.ensures)) (omega arith) (omega arith), shows, omega arith, refl);
       parts = (record { new = _; table = refl; is = front; after = after }, refl);
       uncut = λ u k. subst (λ x. rows_remaining g.S.Stock.tables s k + added_count k x ≤ 65535) (sym after) (add_room ms _ (rows_remaining g.S.Stock.tables s) u (omega arith) k);
     }

@@ -11,8 +11,8 @@ use Rattle.movements.proofs.movements.Movements.added_cell.Goals as goal
 pub returns-then-column-width : goal.returns-then-column-width
 returns-then-column-width g c = sym (get_or_past (get_or (added_rows c.args.table (width_of (g.S.Stock.tables c.args.self.now.below) c.args.table) (items_of c.args.self.now.added)) c.args.k []) c.args.column Null (let s = added_rows_short c.args.table (width_of (g.S.Stock.tables c.args.self.now.below) c.args.table) (items_of c.args.self.now.added) c.args.k in omega arith))
 
-pub offset-bounds-m-column : goal.offset-bounds-m-column
-offset-bounds-m-column g c = let s = small_width (g.S.Stock.tables c.args.self.now.below) c.args.table (g.S.Stock.lawful c.args.self.now.below) in omega arith
+pub offset_bounds-m-column : goal.offset_bounds-m-column
+offset_bounds-m-column g c = let s = small_width (g.S.Stock.tables c.args.self.now.below) c.args.table (g.S.Stock.lawful c.args.self.now.below) in omega arith
 
 pub bounds-m-column : goal.bounds-m-column
 bounds-m-column g c = let s = small_width (g.S.Stock.tables c.args.self.now.below) c.args.table (g.S.Stock.lawful c.args.self.now.below) in omega arith

@@ -38,11 +38,11 @@ returns-then-place-kept g c =
       uncut = λ u j. subst (λ x. length (remaining j x (rows_at base j)) + added_count j ms ≤ 65535) (sym after) (hidden_room ms hs h j (rows_at base j) (u j));
     }
 
-pub returns-in-default : goal.returns-in-default
-returns-in-default g c =
+pub returns-in_default : goal.returns-in_default
+returns-in_default g c =
     let s = c.args.self.now in
     let base = g.S.Stock.tables s.below in
-    let n = c.in-default.ensures in
+    let n = c.in_default.ensures in
     absurd (⊎_elim
     (λ l. let e = rows_moved c.args.table (items_of s.added) (items_of s.hidden) base l in omega arith)
     (λ l. let e = rows_moved_past c.args.table (items_of s.added) (items_of s.hidden) base l in omega arith)

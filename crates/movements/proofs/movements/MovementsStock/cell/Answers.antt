@@ -4,14 +4,14 @@ use Rattle.movements.specs.Shown.{items_of}
 use Rattle.movements.specs.Moving.{cell_moved_past, cell_moved_over, cell_moved_first, cell_moved_second}
 use Rattle.movements.proofs.movements.MovementsStock.cell.Goals as goal
 
-pub returns-then-table-table-count : goal.returns-then-table-table-count
-returns-then-table-table-count g c =
+pub returns-then-table-table_count : goal.returns-then-table-table_count
+returns-then-table-table_count g c =
     let s = c.args.self.now in
     let ts = g.S.Stock.tables s.below in
     sym (⊎_elim
     (λ k. cell_moved_past c.args.table c.args.place c.args.column (items_of s.added) (items_of s.hidden) ts (omega arith))
     (λ p. cell_moved_over c.args.table c.args.place c.args.column (items_of s.added) (items_of s.hidden) ts p.1 (omega arith))
-    c.then-table-table-count.either)
+    c.then-table-table_count.either)
 
 pub returns-then-place-n : goal.returns-then-place-n
 returns-then-place-n g c =
@@ -27,5 +27,5 @@ returns-else-place-n g c =
     let s = c.args.self.now in
     let ts = g.S.Stock.tables s.below in
     let shown = cell_moved_second c.args.table c.args.place c.args.column (items_of s.added) (items_of s.hidden) ts (omega arith) (omega arith) (omega arith) in
-    let asked = rw c.kept-n.ensures at c.added-cell.ensures in
+    let asked = rw c.kept-n.ensures at c.added_cell.ensures in
     cc

@@ -6,9 +6,9 @@ use Rattle.operators.proofs.folds.Running.step.Goals as goal
 
 pub returns : goal.returns
 returns c =
-    let z = c.sum-with.result in
+    let z = c.sum_with.result in
     let f : SFits w64 z = search rules in
-    let e : to_z w64 (of_z w64 z) ≡ adds c.args.aggregate c.args.cell +ℤ c.args.self.sum = to_z-of_z w64 z f ∙ c.sum-with.ensures in
+    let e : to_z w64 (of_z w64 z) ≡ adds c.args.aggregate c.args.cell +ℤ c.args.self.sum = to_z-of_z w64 z f ∙ c.sum_with.ensures in
     record {
       value = step_is c.args.aggregate c.args.cell c.args.self (to_z w64 (of_z w64 z)) c.better.result e c.better.ensures;
       within = λ n q. let P : ℤ → Type 0 = λ x. Within (n + 1) x in subst P (sym e) (within_more n (adds c.args.aggregate c.args.cell) c.args.self.sum (adds_within c.args.aggregate c.args.cell c.requires.addable) q);

@@ -5,8 +5,8 @@ use Rattle.query.proofs.Sounds.{accepted_counted, sound_answer}
 use Rattle.query.proofs.Laws.{stored_law}
 use Rattle.query.proofs.query.Query.last.Goals as goal
 
-pub overflow-sub-result : goal.overflow-sub-result
-overflow-sub-result c =
+pub overflow_sub-result : goal.overflow_sub-result
+overflow_sub-result c =
     let q = c.args.self.now in
     omega (arith, (accepted_counted (lines_of q) (widths_of q) q.accepted).0, front_is q.lines q.size 32 q.few q.long)
 

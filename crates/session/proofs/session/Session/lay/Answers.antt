@@ -10,16 +10,16 @@ use Rattle.session.specs.Requests.{lay}
 use Rattle.session.proofs.Steps.{steps_lay, refused_lay}
 use Rattle.session.proofs.session.Session.lay.Goals as goal
 
-pub returns-in-err-query : goal.returns-in-err-query
-returns-in-err-query g c =
+pub returns-in_err-query : goal.returns-in_err-query
+returns-in_err-query g c =
     let tables = g.S.Stock.tables in
     let s = c.args.self.now in
     let ls = c.args.lines.now in
-    let e = c.in-err-query.field-0.0 in
-    let is : c.from-residual.result ≡ Err e = search rules in
+    let e = c.in_err-query.field-0.0 in
+    let is : c.from_residual.result ≡ Err e = search rules in
     record {
-      made = subst (Lays tables s s ls) (sym is) (c.in-err-query.ensures, refl);
-      steps = subst (λ a. Steps tables s s (lay ls) (told_size a)) (sym is) (refused_lay tables s ls e c.in-err-query.ensures);
+      made = subst (Lays tables s s ls) (sym is) (c.in_err-query.ensures, refl);
+      steps = subst (λ a. Steps tables s s (lay ls) (told_size a)) (sym is) (refused_lay tables s ls e c.in_err-query.ensures);
       same = refl;
     }
 
@@ -28,8 +28,8 @@ returns g c =
     let tables = g.S.Stock.tables in
     let s = c.args.self.now in
     let ls = c.args.lines.now in
-    let q = c.in-ok-query.query in
-    let h = c.in-ok-query.ensures in
+    let q = c.in_ok-query.query in
+    let h = c.in_ok-query.ensures in
     let ws = widths (shown tables s.layer) in
     let size = c.size.ensures ∙ ap length h.0 in
     let wide = c.width.ensures.value ∙ ap (λ x. width x (answer (lines_of q))) h.1 ∙ ap (λ x. width ws (answer x)) h.0 in

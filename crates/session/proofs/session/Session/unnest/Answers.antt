@@ -5,15 +5,15 @@ use Rattle.session.specs.Requests.{unnest}
 use Rattle.session.proofs.Steps.{unnest_made, unnest_long, unnests, unnests_not}
 use Rattle.session.proofs.session.Session.unnest.Goals as goal
 
-pub returns-in-err-plan : goal.returns-in-err-plan
-returns-in-err-plan g c =
+pub returns-in_err-plan : goal.returns-in_err-plan
+returns-in_err-plan g c =
     let tables = g.S.Stock.tables in
     let s = c.args.self.now in
-    let e = c.in-err-plan.field-0.0 in
-    let is : c.from-residual.result ≡ Err e = search rules in
+    let e = c.in_err-plan.field-0.0 in
+    let is : c.from_residual.result ≡ Err e = search rules in
     record {
-      made = subst (Unnests s s) (sym is) (unnests_not s c.in-Some.query c.in-Some.is e c.in-err-plan.ensures.made);
-      steps = subst (λ a. Steps tables s s unnest (told a)) (sym is) (unnest_long tables s c.in-Some.query e c.in-Some.is c.in-err-plan.ensures.made);
+      made = subst (Unnests s s) (sym is) (unnests_not s c.in-Some.query c.in-Some.is e c.in_err-plan.ensures.made);
+      steps = subst (λ a. Steps tables s s unnest (told a)) (sym is) (unnest_long tables s c.in-Some.query e c.in-Some.is c.in_err-plan.ensures.made);
       same = refl;
     }
 
@@ -22,7 +22,7 @@ returns g c =
     let tables = g.S.Stock.tables in
     let s = c.args.self.now in
     record {
-      made = unnests s c.in-Some.query c.in-Some.is c.in-ok-plan.plan (length c.lines-count.result.now) c.in-ok-plan.ensures.made (ap length c.lines-count.ensures);
-      steps = unnest_made tables s c.in-Some.query c.in-ok-plan.plan (length c.lines-count.result.now) c.in-Some.is c.in-ok-plan.ensures.made (ap length c.lines-count.ensures);
+      made = unnests s c.in-Some.query c.in-Some.is c.in_ok-plan.plan (length c.lines-count.result.now) c.in_ok-plan.ensures.made (ap length c.lines-count.ensures);
+      steps = unnest_made tables s c.in-Some.query c.in_ok-plan.plan (length c.lines-count.result.now) c.in-Some.is c.in_ok-plan.ensures.made (ap length c.lines-count.ensures);
       same = refl;
     }

@@ -11,35 +11,35 @@ pub returns-then-place-r : goal.returns-then-place-r
 returns-then-place-r c =
     let s = c.args.self.now in
     let ts = shelved s.pairs.now s.cells.now in
-    let r = c.pair-at-w.ensures.rows in
+    let r = c.pair_at-w.ensures.rows in
     sym (ap (λ x. get_or x c.args.column Null) (get_or_past (rows_at ts c.args.table) c.args.place [] (omega arith)))
 
 pub returns-then-column-w : goal.returns-then-column-w
 returns-then-column-w c =
     let s = c.args.self.now in
     let ts = shelved s.pairs.now s.cells.now in
-    let r = c.pair-at-w.ensures.rows in
-    let w = c.pair-at-w.ensures.width in
+    let r = c.pair_at-w.ensures.rows in
+    let w = c.pair_at-w.ensures.width in
     let k = row_long ts c.args.table c.args.place (shelved_lawful s.pairs.now s.cells.now) (omega arith) in
     sym (get_or_past (get_or (rows_at ts c.args.table) c.args.place []) c.args.column Null (omega arith))
 
 pub start-at-requires : goal.start-at-requires
-start-at-requires c = let s = c.args.self.now in shown_table s.pairs.now s.cells.now c.args.table c.args.place c.args.column c.pair-at-w.result.0 c.pair-at-w.result.1 c.pair-at-w.ensures.width c.pair-at-w.ensures.rows (omega arith) (omega arith)
+start-at-requires c = let s = c.args.self.now in shown_table s.pairs.now s.cells.now c.args.table c.args.place c.args.column c.pair_at-w.result.0 c.pair_at-w.result.1 c.pair_at-w.ensures.width c.pair_at-w.ensures.rows (omega arith) (omega arith)
 
-pub overflow-mul-result : goal.overflow-mul-result
-overflow-mul-result c = let s = c.args.self.now in let k = cell_within s.pairs.now s.cells.now c.args.table c.args.place c.args.column c.pair-at-w.result.0 c.pair-at-w.result.1 c.pair-at-w.ensures.width c.pair-at-w.ensures.rows (omega arith) (omega arith) in omega arith
+pub overflow_mul-result : goal.overflow_mul-result
+overflow_mul-result c = let s = c.args.self.now in let k = cell_within s.pairs.now s.cells.now c.args.table c.args.place c.args.column c.pair_at-w.result.0 c.pair_at-w.result.1 c.pair_at-w.ensures.width c.pair_at-w.ensures.rows (omega arith) (omega arith) in omega arith
 
-pub overflow-add-result : goal.overflow-add-result
-overflow-add-result c = let s = c.args.self.now in let e = c.start-at.ensures in let k = cell_within s.pairs.now s.cells.now c.args.table c.args.place c.args.column c.pair-at-w.result.0 c.pair-at-w.result.1 c.pair-at-w.ensures.width c.pair-at-w.ensures.rows (omega arith) (omega arith) in omega arith
+pub overflow_add-result : goal.overflow_add-result
+overflow_add-result c = let s = c.args.self.now in let e = c.start-at.ensures in let k = cell_within s.pairs.now s.cells.now c.args.table c.args.place c.args.column c.pair_at-w.result.0 c.pair_at-w.result.1 c.pair_at-w.ensures.width c.pair_at-w.ensures.rows (omega arith) (omega arith) in omega arith
 
-pub overflow-add-result-2 : goal.overflow-add-result-2
-overflow-add-result-2 c = let s = c.args.self.now in let e = c.start-at.ensures in let k = cell_within s.pairs.now s.cells.now c.args.table c.args.place c.args.column c.pair-at-w.result.0 c.pair-at-w.result.1 c.pair-at-w.ensures.width c.pair-at-w.ensures.rows (omega arith) (omega arith) in omega arith
+pub overflow_add-result-2 : goal.overflow_add-result-2
+overflow_add-result-2 c = let s = c.args.self.now in let e = c.start-at.ensures in let k = cell_within s.pairs.now s.cells.now c.args.table c.args.place c.args.column c.pair_at-w.result.0 c.pair_at-w.result.1 c.pair_at-w.ensures.width c.pair_at-w.ensures.rows (omega arith) (omega arith) in omega arith
 
-pub offset-bounds-self-at : goal.offset-bounds-self-at
-offset-bounds-self-at c = let s = c.args.self.now in let e = c.start-at.ensures in let k = cell_within s.pairs.now s.cells.now c.args.table c.args.place c.args.column c.pair-at-w.result.0 c.pair-at-w.result.1 c.pair-at-w.ensures.width c.pair-at-w.ensures.rows (omega arith) (omega arith) in omega arith
+pub offset_bounds-self-at : goal.offset_bounds-self-at
+offset_bounds-self-at c = let s = c.args.self.now in let e = c.start-at.ensures in let k = cell_within s.pairs.now s.cells.now c.args.table c.args.place c.args.column c.pair_at-w.result.0 c.pair_at-w.result.1 c.pair_at-w.ensures.width c.pair_at-w.ensures.rows (omega arith) (omega arith) in omega arith
 
 pub bounds-self-at : goal.bounds-self-at
-bounds-self-at c = let s = c.args.self.now in let e = c.start-at.ensures in let k = cell_within s.pairs.now s.cells.now c.args.table c.args.place c.args.column c.pair-at-w.result.0 c.pair-at-w.result.1 c.pair-at-w.ensures.width c.pair-at-w.ensures.rows (omega arith) (omega arith) in omega arith
+bounds-self-at c = let s = c.args.self.now in let e = c.start-at.ensures in let k = cell_within s.pairs.now s.cells.now c.args.table c.args.place c.args.column c.pair_at-w.result.0 c.pair_at-w.result.1 c.pair_at-w.ensures.width c.pair_at-w.ensures.rows (omega arith) (omega arith) in omega arith
 
 pub returns : goal.returns
-returns c = let s = c.args.self.now in cell_there s.pairs.now s.cells.now c.args.table c.args.place c.args.column c.pair-at-w.result.0 c.pair-at-w.result.1 c.pair-at-w.ensures.width c.pair-at-w.ensures.rows (omega arith) (omega arith) c.start-at.result c.start-at.ensures
+returns c = let s = c.args.self.now in cell_there s.pairs.now s.cells.now c.args.table c.args.place c.args.column c.pair_at-w.result.0 c.pair_at-w.result.1 c.pair_at-w.ensures.width c.pair_at-w.ensures.rows (omega arith) (omega arith) c.start-at.result c.start-at.ensures

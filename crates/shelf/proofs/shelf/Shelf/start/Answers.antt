@@ -2,21 +2,21 @@ use Rattle.std.proofs.Common.{◌≡◌, ◌+◌, ◌*◌, ◌<◌, ◌≤◌, l
 use Rattle.shelf.specs.Cutting.{offset, offset_more, in_pairs, unfaulted, within}
 use Rattle.shelf.proofs.shelf.Shelf.start.Goals as goal
 
-pub offset-bounds-self-i : goal.offset-bounds-self-i
-offset-bounds-self-i c = let s = c.args.self.now in let l = in_pairs s.pairs.now s.cells.now c.args.table c.requires in omega arith
+pub offset_bounds-self-i : goal.offset_bounds-self-i
+offset_bounds-self-i c = let s = c.args.self.now in let l = in_pairs s.pairs.now s.cells.now c.args.table c.requires in omega arith
 
 pub bounds-self-i : goal.bounds-self-i
 bounds-self-i c = let s = c.args.self.now in let l = in_pairs s.pairs.now s.cells.now c.args.table c.requires in omega arith
 
-pub overflow-mul-at : goal.overflow-mul-at
-overflow-mul-at c =
+pub overflow_mul-at : goal.overflow_mul-at
+overflow_mul-at c =
     let s = c.args.self.now in
     let l = in_pairs s.pairs.now s.cells.now c.args.table c.requires in
     let w = within 0 s.pairs.now s.cells.now c.loop-i.i (unfaulted s.pairs.now s.cells.now c.args.table c.requires) (omega arith) in
     omega arith
 
-pub overflow-add-at : goal.overflow-add-at
-overflow-add-at c =
+pub overflow_add-at : goal.overflow_add-at
+overflow_add-at c =
     let s = c.args.self.now in
     let l = in_pairs s.pairs.now s.cells.now c.args.table c.requires in
     let w = within 0 s.pairs.now s.cells.now c.loop-i.i (unfaulted s.pairs.now s.cells.now c.args.table c.requires) (omega arith) in
