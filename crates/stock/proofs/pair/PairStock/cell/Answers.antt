@@ -16,5 +16,5 @@ returns-then-table-n g c =
 pub returns-else-table-n : goal.returns-else-table-n
 returns-else-table-n g c =
     let shown = ap (λ (t : Table). get_or (get_or t.rows c.args.place []) c.args.column Null) (paired_second (g.X.Stock.tables c.args.self.now.first) (g.Y.Stock.tables c.args.self.now.second) c.args.table (omega arith) (omega arith)) in
-    let asked = rw c.table-count-n.ensures at c.cell-else-table-n.ensures in
+    let asked = rw c.table_count-n.ensures at c.cell-else-table-n.ensures in
     cc

@@ -9,11 +9,11 @@ returns-then-table-ge16 g c = sym (ap (λ (t : Table). length t.rows) (paired_pa
 pub returns-then-table-n : goal.returns-then-table-n
 returns-then-table-n g c =
     let shown = ap (λ (t : Table). length t.rows) (paired_first (g.X.Stock.tables c.args.self.now.first) (g.Y.Stock.tables c.args.self.now.second) c.args.table (omega arith) (omega arith)) in
-    let asked = c.row-count.ensures in
+    let asked = c.row_count.ensures in
     cc
 
 pub returns-else-table-n : goal.returns-else-table-n
 returns-else-table-n g c =
     let shown = ap (λ (t : Table). length t.rows) (paired_second (g.X.Stock.tables c.args.self.now.first) (g.Y.Stock.tables c.args.self.now.second) c.args.table (omega arith) (omega arith)) in
-    let asked = rw c.table-count-n.ensures at c.row-count-else-table-n.ensures in
+    let asked = rw c.table_count-n.ensures at c.row_count-else-table-n.ensures in
     cc
