@@ -8,6 +8,9 @@ offset_bounds-self-i c = let s = c.args.self.now in let l = in_pairs s.pairs.now
 pub bounds-self-i : goal.bounds-self-i
 bounds-self-i c = let s = c.args.self.now in let l = in_pairs s.pairs.now s.cells.now c.args.table c.requires in omega arith
 
+pub bounds-self-i-in-loop-i : goal.bounds-self-i-in-loop-i
+bounds-self-i-in-loop-i c = let s = c.args.self.now in let l = in_pairs s.pairs.now s.cells.now c.args.table c.requires in omega arith
+
 pub overflow_mul-at : goal.overflow_mul-at
 overflow_mul-at c =
     let s = c.args.self.now in
