@@ -11,28 +11,14 @@ invariant_of-result c =
     let ls = c.args.lines.now in
     let ws = take c.args.stocked c.args.tables in
     let A = c.in_ok-widths.ensures in
-    let n = front_is c.args.tables c.args.stocked 16 c.requires.few c.requires.long in (
-      (accepted_counted ls ws A.0).1,
-      (
-        c.copy_lines-all.ensures.long,
-        (
-          c.requires.long,
-          (
-            c.requires.few,
-            (
-              (λ t h. c.requires.sized.least t (omega (arith, n))),
-              (
-                c.requires.sized.most,
-                (
-                  accepted_copy ls c.copy_lines-all.result ws c.in_ok-widths.widths c.copy_lines-all.ensures.same A.0,
-                  (
-                    measured_copy ls c.copy_lines-all.result ws c.in_ok-widths.widths c.copy_lines-all.ensures.same A.1,
-                    tt,
-                  ),
-                ),
-              ),
-            ),
-          ),
-        ),
-      ),
-    )
+    let n = front_is c.args.tables c.args.stocked 16 c.requires.few c.requires.long in
+    record {
+      few = (accepted_counted ls ws A.0).1;
+      long = c.copy_lines-all.ensures.long;
+      broad = c.requires.long;
+      stock = c.requires.few;
+      least = λ t h. c.requires.sized.least t (omega (arith, n));
+      most = c.requires.sized.most;
+      accepted = accepted_copy ls c.copy_lines-all.result ws c.in_ok-widths.widths c.copy_lines-all.ensures.same A.0;
+      measured = measured_copy ls c.copy_lines-all.result ws c.in_ok-widths.widths c.copy_lines-all.ensures.same A.1;
+    }

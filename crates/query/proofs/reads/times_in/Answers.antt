@@ -6,7 +6,7 @@ use Rattle.query.proofs.reads.times_in.Goals as goal
 
 pub loop-l-preserved : goal.loop-l-preserved
 loop-l-preserved c = (
-  omega (arith, times_in_more c.args.lines.now c.loop-l.l-index c.args.i (omega arith), c.loop-l.invariant.0, c.times-n.ensures.0 ∙ ap (λ v. times v c.args.i) c.shape.ensures),
+  omega (arith, times_in_more c.args.lines.now c.loop-l.l-index c.args.i (omega arith), c.loop-l.invariant.0, c.times-n.ensures.value ∙ ap (λ v. times v c.args.i) c.shape.ensures),
   omega arith,
 )
 
