@@ -80,77 +80,77 @@ returns-in_default t c =
     finish (widths_of c.args.query.now) (lines_of c.args.query.now) c.args.line (accepted_ordered (lines_of c.args.query.now) (widths_of c.args.query.now) c.args.query.now.accepted) c.requires.within c.args.place c.line-kind.result c.line-kind.ensures c.shape.result c.shape.ensures _ _ c.lay_own-in_default.result
     (rest_laid (widths_of c.args.query.now) (grow [] (lines_of c.args.query.now)) c.line-kind.result c.args.place c.shape.result c.in_default.not-One c.in_default.not-Two c.in_default.not-Tested c.in_default.not-Inner _ _ c.lay_own-in_default.result c.lay_own-in_default.ensures)
 
-pub returns-in_err-one : goal.returns-in_err-one
-returns-in_err-one t c =
+pub returns-in_err-one-in-One : goal.returns-in_err-one-in-One
+returns-in_err-one-in-One t c =
     finish (widths_of c.args.query.now) (lines_of c.args.query.now) c.args.line (accepted_ordered (lines_of c.args.query.now) (widths_of c.args.query.now) c.args.query.now.accepted) c.requires.within c.args.place c.line-kind.result c.line-kind.ensures (One c.in-One.rows) c.in-One.ensures _ _ c.from_residual.result
     (err_puts _ _ _ c.from_residual.result _ c.from_residual.ensures.1
-    (front_long _ _ _ _ c.in_err-one.ensures))
+    (front_long _ _ _ _ c.in_err-one-in-One.ensures))
 
-pub returns-in_err-one-2 : goal.returns-in_err-one-2
-returns-in_err-one-2 t c =
-    finish (widths_of c.args.query.now) (lines_of c.args.query.now) c.args.line (accepted_ordered (lines_of c.args.query.now) (widths_of c.args.query.now) c.args.query.now.accepted) c.requires.within c.args.place c.line-kind.result c.line-kind.ensures (Two c.in-Two.left c.in-Two.right) c.in-Two.ensures _ _ c.from_residual-in_err-one-2.result
-    (err_puts _ _ _ c.from_residual-in_err-one-2.result _ c.from_residual-in_err-one-2.ensures.1
-    (front_long _ _ _ _ c.in_err-one-2.ensures))
+pub returns-in_err-one-in-Two : goal.returns-in_err-one-in-Two
+returns-in_err-one-in-Two t c =
+    finish (widths_of c.args.query.now) (lines_of c.args.query.now) c.args.line (accepted_ordered (lines_of c.args.query.now) (widths_of c.args.query.now) c.args.query.now.accepted) c.requires.within c.args.place c.line-kind.result c.line-kind.ensures (Two c.in-Two.left c.in-Two.right) c.in-Two.ensures _ _ c.from_residual-in_err-one-in-Two.result
+    (err_puts _ _ _ c.from_residual-in_err-one-in-Two.result _ c.from_residual-in_err-one-in-Two.ensures.1
+    (front_long _ _ _ _ c.in_err-one-in-Two.ensures))
 
-pub returns-in_err-one-3 : goal.returns-in_err-one-3
-returns-in_err-one-3 t c =
-    finish (widths_of c.args.query.now) (lines_of c.args.query.now) c.args.line (accepted_ordered (lines_of c.args.query.now) (widths_of c.args.query.now) c.args.query.now.accepted) c.requires.within c.args.place c.line-kind.result c.line-kind.ensures (Tested c.in-Tested.rows c.in-Tested.condition) c.in-Tested.ensures _ _ c.from_residual-in_err-one-3.result
-    (err_puts _ _ _ c.from_residual-in_err-one-3.result _ c.from_residual-in_err-one-3.ensures.1
-    (front_long _ _ _ _ c.in_err-one-3.ensures))
+pub returns-in_err-one-in-Tested : goal.returns-in_err-one-in-Tested
+returns-in_err-one-in-Tested t c =
+    finish (widths_of c.args.query.now) (lines_of c.args.query.now) c.args.line (accepted_ordered (lines_of c.args.query.now) (widths_of c.args.query.now) c.args.query.now.accepted) c.requires.within c.args.place c.line-kind.result c.line-kind.ensures (Tested c.in-Tested.rows c.in-Tested.condition) c.in-Tested.ensures _ _ c.from_residual-in_err-one-in-Tested.result
+    (err_puts _ _ _ c.from_residual-in_err-one-in-Tested.result _ c.from_residual-in_err-one-in-Tested.ensures.1
+    (front_long _ _ _ _ c.in_err-one-in-Tested.ensures))
 
-pub returns-in_err-one-4 : goal.returns-in_err-one-4
-returns-in_err-one-4 t c =
-    finish (widths_of c.args.query.now) (lines_of c.args.query.now) c.args.line (accepted_ordered (lines_of c.args.query.now) (widths_of c.args.query.now) c.args.query.now.accepted) c.requires.within c.args.place c.line-kind.result c.line-kind.ensures (Inner c.in-Inner.left c.in-Inner.right) c.in-Inner.ensures _ _ c.from_residual-in_err-one-4.result
-    (err_puts _ _ _ c.from_residual-in_err-one-4.result _ c.from_residual-in_err-one-4.ensures.1
-    (front_long _ _ _ _ c.in_err-one-4.ensures))
+pub returns-in_err-one-in-Inner : goal.returns-in_err-one-in-Inner
+returns-in_err-one-in-Inner t c =
+    finish (widths_of c.args.query.now) (lines_of c.args.query.now) c.args.line (accepted_ordered (lines_of c.args.query.now) (widths_of c.args.query.now) c.args.query.now.accepted) c.requires.within c.args.place c.line-kind.result c.line-kind.ensures (Inner c.in-Inner.left c.in-Inner.right) c.in-Inner.ensures _ _ c.from_residual-in_err-one-in-Inner.result
+    (err_puts _ _ _ c.from_residual-in_err-one-in-Inner.result _ c.from_residual-in_err-one-in-Inner.ensures.1
+    (front_long _ _ _ _ c.in_err-one-in-Inner.ensures))
 
-pub returns-in_err-two : goal.returns-in_err-two
-returns-in_err-two t c =
-    finish (widths_of c.args.query.now) (lines_of c.args.query.now) c.args.line (accepted_ordered (lines_of c.args.query.now) (widths_of c.args.query.now) c.args.query.now.accepted) c.requires.within c.args.place c.line-kind.result c.line-kind.ensures (Two c.in-Two.left c.in-Two.right) c.in-Two.ensures _ _ c.from_residual-in_err-two.result
-    (err_puts _ _ _ c.from_residual-in_err-two.result _ c.from_residual-in_err-two.ensures.1
-    (second_long _ _ _ (emit (widths_of c.args.query.now) (tree_at (lines_of c.args.query.now) c.in-Two.right) c.args.place) (λ h j n. own_lines c.line-kind.result c.args.place h j n) _ _ c.in_ok-one-2.ensures c.in_err-two.ensures))
+pub returns-in_err-two-in-Two : goal.returns-in_err-two-in-Two
+returns-in_err-two-in-Two t c =
+    finish (widths_of c.args.query.now) (lines_of c.args.query.now) c.args.line (accepted_ordered (lines_of c.args.query.now) (widths_of c.args.query.now) c.args.query.now.accepted) c.requires.within c.args.place c.line-kind.result c.line-kind.ensures (Two c.in-Two.left c.in-Two.right) c.in-Two.ensures _ _ c.from_residual-in_err-two-in-Two.result
+    (err_puts _ _ _ c.from_residual-in_err-two-in-Two.result _ c.from_residual-in_err-two-in-Two.ensures.1
+    (second_long _ _ _ (emit (widths_of c.args.query.now) (tree_at (lines_of c.args.query.now) c.in-Two.right) c.args.place) (λ h j n. own_lines c.line-kind.result c.args.place h j n) _ _ c.in_ok-one-in-Two.ensures c.in_err-two-in-Two.ensures))
 
-pub returns-in_err-test : goal.returns-in_err-test
-returns-in_err-test t c =
-    finish (widths_of c.args.query.now) (lines_of c.args.query.now) c.args.line (accepted_ordered (lines_of c.args.query.now) (widths_of c.args.query.now) c.args.query.now.accepted) c.requires.within c.args.place c.line-kind.result c.line-kind.ensures (Tested c.in-Tested.rows c.in-Tested.condition) c.in-Tested.ensures _ _ c.from_residual-in_err-test.result
-    (err_puts _ _ _ c.from_residual-in_err-test.result _ c.from_residual-in_err-test.ensures.1
-    (second_long _ _ _ (emit_condition (as_cond (at (grow [] (lines_of c.args.query.now)) c.in-Tested.condition))) (λ h j n. own_lines c.line-kind.result c.args.place h j n) _ _ c.in_ok-one-3.ensures c.in_err-test.ensures))
+pub returns-in_err-test-in-Tested : goal.returns-in_err-test-in-Tested
+returns-in_err-test-in-Tested t c =
+    finish (widths_of c.args.query.now) (lines_of c.args.query.now) c.args.line (accepted_ordered (lines_of c.args.query.now) (widths_of c.args.query.now) c.args.query.now.accepted) c.requires.within c.args.place c.line-kind.result c.line-kind.ensures (Tested c.in-Tested.rows c.in-Tested.condition) c.in-Tested.ensures _ _ c.from_residual-in_err-test-in-Tested.result
+    (err_puts _ _ _ c.from_residual-in_err-test-in-Tested.result _ c.from_residual-in_err-test-in-Tested.ensures.1
+    (second_long _ _ _ (emit_condition (as_cond (at (grow [] (lines_of c.args.query.now)) c.in-Tested.condition))) (λ h j n. own_lines c.line-kind.result c.args.place h j n) _ _ c.in_ok-one-in-Tested.ensures c.in_err-test-in-Tested.ensures))
 
-pub returns-in_err-domain : goal.returns-in_err-domain
-returns-in_err-domain t c =
-    finish (widths_of c.args.query.now) (lines_of c.args.query.now) c.args.line (accepted_ordered (lines_of c.args.query.now) (widths_of c.args.query.now) c.args.query.now.accepted) c.requires.within c.args.place c.line-kind.result c.line-kind.ensures (Inner c.in-Inner.left c.in-Inner.right) c.in-Inner.ensures _ _ c.from_residual-in_err-domain.result
-    (err_puts _ _ _ c.from_residual-in_err-domain.result _ c.from_residual-in_err-domain.ensures.1
-    (chained _ _ [] _ c.in_ok-one-4.one
+pub returns-in_err-domain-in-Inner : goal.returns-in_err-domain-in-Inner
+returns-in_err-domain-in-Inner t c =
+    finish (widths_of c.args.query.now) (lines_of c.args.query.now) c.args.line (accepted_ordered (lines_of c.args.query.now) (widths_of c.args.query.now) c.args.query.now.accepted) c.requires.within c.args.place c.line-kind.result c.line-kind.ensures (Inner c.in-Inner.left c.in-Inner.right) c.in-Inner.ensures _ _ c.from_residual-in_err-domain-in-Inner.result
+    (err_puts _ _ _ c.from_residual-in_err-domain-in-Inner.result _ c.from_residual-in_err-domain-in-Inner.ensures.1
+    (chained _ _ [] _ c.in_ok-one-in-Inner.one
     (λ h i. Distinct h ∷ chain (i + 1) (emit (widths_of c.args.query.now) (tree_at (lines_of c.args.query.now) c.in-Inner.right) (inside (breadth c.args.place + width (widths_of c.args.query.now) (tree_at (lines_of c.args.query.now) c.in-Inner.left)) i) (i + 1)) (λ j. apply_own c.line-kind.result (breadth c.args.place + width (widths_of c.args.query.now) (tree_at (lines_of c.args.query.now) c.in-Inner.left)) (width (widths_of c.args.query.now) (tree_at (lines_of c.args.query.now) c.in-Inner.right)) h (j - 1) j))
-    (Err _) c.in_ok-one-4.ensures (front_long _ (Distinct c.in_ok-one-4.one ∷ []) _ _ c.in_err-domain.ensures)))
+    (Err _) c.in_ok-one-in-Inner.ensures (front_long _ (Distinct c.in_ok-one-in-Inner.one ∷ []) _ _ c.in_err-domain-in-Inner.ensures)))
 
-pub returns-in_err-two-2 : goal.returns-in_err-two-2
-returns-in_err-two-2 t c =
-    finish (widths_of c.args.query.now) (lines_of c.args.query.now) c.args.line (accepted_ordered (lines_of c.args.query.now) (widths_of c.args.query.now) c.args.query.now.accepted) c.requires.within c.args.place c.line-kind.result c.line-kind.ensures (Inner c.in-Inner.left c.in-Inner.right) c.in-Inner.ensures _ _ c.from_residual-in_err-two-2.result
-    (err_puts _ _ _ c.from_residual-in_err-two-2.result _ c.from_residual-in_err-two-2.ensures.1
-    (inner_then (widths_of c.args.query.now) (lines_of c.args.query.now) c.line-kind.result c.args.place c.in-Inner.left c.in-Inner.right (c.columns.result + c.line_width.result) _ _ _ [] c.in_ok-one-4.one c.in_ok-domain.domain (Err _) (ap₂ ◌+◌ c.columns.ensures c.line_width.ensures)
-    c.in_ok-one-4.ensures c.in_ok-domain.ensures (front_long _ _ _ _ c.in_err-two-2.ensures)))
+pub returns-in_err-two-in-Inner : goal.returns-in_err-two-in-Inner
+returns-in_err-two-in-Inner t c =
+    finish (widths_of c.args.query.now) (lines_of c.args.query.now) c.args.line (accepted_ordered (lines_of c.args.query.now) (widths_of c.args.query.now) c.args.query.now.accepted) c.requires.within c.args.place c.line-kind.result c.line-kind.ensures (Inner c.in-Inner.left c.in-Inner.right) c.in-Inner.ensures _ _ c.from_residual-in_err-two-in-Inner.result
+    (err_puts _ _ _ c.from_residual-in_err-two-in-Inner.result _ c.from_residual-in_err-two-in-Inner.ensures.1
+    (inner_then (widths_of c.args.query.now) (lines_of c.args.query.now) c.line-kind.result c.args.place c.in-Inner.left c.in-Inner.right (c.columns.result + c.line_width.result) _ _ _ [] c.in_ok-one-in-Inner.one c.in_ok-domain-in-Inner.domain (Err _) (ap₂ ◌+◌ c.columns.ensures c.line_width.ensures)
+    c.in_ok-one-in-Inner.ensures c.in_ok-domain-in-Inner.ensures (front_long _ _ _ _ c.in_err-two-in-Inner.ensures)))
 
-pub returns-in_ok-one : goal.returns-in_ok-one
-returns-in_ok-one t c =
+pub returns-in_ok-one-in-One : goal.returns-in_ok-one-in-One
+returns-in_ok-one-in-One t c =
     finish (widths_of c.args.query.now) (lines_of c.args.query.now) c.args.line (accepted_ordered (lines_of c.args.query.now) (widths_of c.args.query.now) c.args.query.now.accepted) c.requires.within c.args.place c.line-kind.result c.line-kind.ensures (One c.in-One.rows) c.in-One.ensures _ _ c.lay_own.result
-    (one_laid (widths_of c.args.query.now) (lines_of c.args.query.now) c.line-kind.result c.args.place c.in-One.rows _ _ _ c.in_ok-one.one c.lay_own.result c.in_ok-one.ensures c.lay_own.ensures)
+    (one_laid (widths_of c.args.query.now) (lines_of c.args.query.now) c.line-kind.result c.args.place c.in-One.rows _ _ _ c.in_ok-one-in-One.one c.lay_own.result c.in_ok-one-in-One.ensures c.lay_own.ensures)
 
-pub returns-in_ok-two : goal.returns-in_ok-two
-returns-in_ok-two t c =
+pub returns-in_ok-two-in-Two : goal.returns-in_ok-two-in-Two
+returns-in_ok-two-in-Two t c =
     finish (widths_of c.args.query.now) (lines_of c.args.query.now) c.args.line (accepted_ordered (lines_of c.args.query.now) (widths_of c.args.query.now) c.args.query.now.accepted) c.requires.within c.args.place c.line-kind.result c.line-kind.ensures (Two c.in-Two.left c.in-Two.right) c.in-Two.ensures _ _ c.lay_own-in-Two.result
-    (two_laid (widths_of c.args.query.now) (lines_of c.args.query.now) c.line-kind.result c.args.place c.in-Two.left c.in-Two.right _ _ _ _ c.in_ok-one-2.one c.in_ok-two.two c.lay_own-in-Two.result
-    c.in_ok-one-2.ensures c.in_ok-two.ensures c.lay_own-in-Two.ensures)
+    (two_laid (widths_of c.args.query.now) (lines_of c.args.query.now) c.line-kind.result c.args.place c.in-Two.left c.in-Two.right _ _ _ _ c.in_ok-one-in-Two.one c.in_ok-two-in-Two.two c.lay_own-in-Two.result
+    c.in_ok-one-in-Two.ensures c.in_ok-two-in-Two.ensures c.lay_own-in-Two.ensures)
 
-pub returns-in_ok-test : goal.returns-in_ok-test
-returns-in_ok-test t c =
+pub returns-in_ok-test-in-Tested : goal.returns-in_ok-test-in-Tested
+returns-in_ok-test-in-Tested t c =
     finish (widths_of c.args.query.now) (lines_of c.args.query.now) c.args.line (accepted_ordered (lines_of c.args.query.now) (widths_of c.args.query.now) c.args.query.now.accepted) c.requires.within c.args.place c.line-kind.result c.line-kind.ensures (Tested c.in-Tested.rows c.in-Tested.condition) c.in-Tested.ensures _ _ c.lay_own-in-Tested.result
-    (tested_laid (widths_of c.args.query.now) (lines_of c.args.query.now) c.line-kind.result c.args.place c.in-Tested.rows c.in-Tested.condition _ _ _ _ c.in_ok-one-3.one c.in_ok-test.test c.lay_own-in-Tested.result
-    c.in_ok-one-3.ensures c.in_ok-test.ensures c.lay_own-in-Tested.ensures)
+    (tested_laid (widths_of c.args.query.now) (lines_of c.args.query.now) c.line-kind.result c.args.place c.in-Tested.rows c.in-Tested.condition _ _ _ _ c.in_ok-one-in-Tested.one c.in_ok-test-in-Tested.test c.lay_own-in-Tested.result
+    c.in_ok-one-in-Tested.ensures c.in_ok-test-in-Tested.ensures c.lay_own-in-Tested.ensures)
 
-pub returns-in_ok-two-2 : goal.returns-in_ok-two-2
-returns-in_ok-two-2 t c =
+pub returns-in_ok-two-in-Inner : goal.returns-in_ok-two-in-Inner
+returns-in_ok-two-in-Inner t c =
     finish (widths_of c.args.query.now) (lines_of c.args.query.now) c.args.line (accepted_ordered (lines_of c.args.query.now) (widths_of c.args.query.now) c.args.query.now.accepted) c.requires.within c.args.place c.line-kind.result c.line-kind.ensures (Inner c.in-Inner.left c.in-Inner.right) c.in-Inner.ensures _ _ c.lay_apply.result
     (inner_laid (widths_of c.args.query.now) (lines_of c.args.query.now) c.line-kind.result c.args.place c.in-Inner.left c.in-Inner.right (c.columns.result + c.line_width.result) c.line_width-in-Inner.result _ _ _ _ _
-    c.in_ok-one-4.one c.in_ok-domain.domain c.in_ok-two-2.two c.lay_apply.result (ap₂ ◌+◌ c.columns.ensures c.line_width.ensures) c.line_width-in-Inner.ensures
-    c.in_ok-one-4.ensures c.in_ok-domain.ensures c.in_ok-two-2.ensures c.lay_apply.ensures)
+    c.in_ok-one-in-Inner.one c.in_ok-domain-in-Inner.domain c.in_ok-two-in-Inner.two c.lay_apply.result (ap₂ ◌+◌ c.columns.ensures c.line_width.ensures) c.line_width-in-Inner.ensures
+    c.in_ok-one-in-Inner.ensures c.in_ok-domain-in-Inner.ensures c.in_ok-two-in-Inner.ensures c.lay_apply.ensures)

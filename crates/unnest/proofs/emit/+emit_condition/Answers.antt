@@ -39,43 +39,43 @@ emit_condition-requires-in-Or-2 t c =
     let f = line_is (lines_of c.args.query.now) c.args.line _ (accepted_ordered (lines_of c.args.query.now) (widths_of c.args.query.now) c.args.query.now.accepted) c.requires (sym c.in-Or.ensures) in
     (omega (arith, f.0.1, c.decreases), omega (arith, f.0.1, c.requires))
 
-pub returns-in_err-part : goal.returns-in_err-part
+pub returns-in_err-part-in-Not : goal.returns-in_err-part-in-Not
 unfolding build emit_condition
-returns-in_err-part t c =
+returns-in_err-part-in-Not t c =
     let f = line_is (lines_of c.args.query.now) c.args.line _ (accepted_ordered (lines_of c.args.query.now) (widths_of c.args.query.now) c.args.query.now.accepted) c.requires (sym c.in-Not.ensures) in
-    rw f.1 (err_puts _ _ _ c.from_residual.result _ c.from_residual.ensures.1 (front_long _ _ _ _ c.in_err-part.ensures))
+    rw f.1 (err_puts _ _ _ c.from_residual.result _ c.from_residual.ensures.1 (front_long _ _ _ _ c.in_err-part-in-Not.ensures))
 
-pub returns-in_err-part-2 : goal.returns-in_err-part-2
+pub returns-in_err-part-in-Unknown : goal.returns-in_err-part-in-Unknown
 unfolding build emit_condition
-returns-in_err-part-2 t c =
+returns-in_err-part-in-Unknown t c =
     let f = line_is (lines_of c.args.query.now) c.args.line _ (accepted_ordered (lines_of c.args.query.now) (widths_of c.args.query.now) c.args.query.now.accepted) c.requires (sym c.in-Unknown.ensures) in
-    rw f.1 (err_puts _ _ _ c.from_residual-in_err-part-2.result _ c.from_residual-in_err-part-2.ensures.1 (front_long _ _ _ _ c.in_err-part-2.ensures))
+    rw f.1 (err_puts _ _ _ c.from_residual-in_err-part-in-Unknown.result _ c.from_residual-in_err-part-in-Unknown.ensures.1 (front_long _ _ _ _ c.in_err-part-in-Unknown.ensures))
 
-pub returns-in_err-one : goal.returns-in_err-one
+pub returns-in_err-one-in-And : goal.returns-in_err-one-in-And
 unfolding build emit_condition
-returns-in_err-one t c =
+returns-in_err-one-in-And t c =
     let f = line_is (lines_of c.args.query.now) c.args.line _ (accepted_ordered (lines_of c.args.query.now) (widths_of c.args.query.now) c.args.query.now.accepted) c.requires (sym c.in-And.ensures) in
-    rw f.1 (err_puts _ _ _ c.from_residual-in_err-one.result _ c.from_residual-in_err-one.ensures.1 (front_long _ _ _ _ c.in_err-one.ensures))
+    rw f.1 (err_puts _ _ _ c.from_residual-in_err-one-in-And.result _ c.from_residual-in_err-one-in-And.ensures.1 (front_long _ _ _ _ c.in_err-one-in-And.ensures))
 
-pub returns-in_err-two : goal.returns-in_err-two
+pub returns-in_err-two-in-And : goal.returns-in_err-two-in-And
 unfolding build emit_condition
-returns-in_err-two t c =
+returns-in_err-two-in-And t c =
     let f = line_is (lines_of c.args.query.now) c.args.line _ (accepted_ordered (lines_of c.args.query.now) (widths_of c.args.query.now) c.args.query.now.accepted) c.requires (sym c.in-And.ensures) in
-    rw f.1 (err_puts _ _ _ c.from_residual-in_err-two.result _ c.from_residual-in_err-two.ensures.1
-    (second_long _ _ _ (emit_condition (as_cond (at (grow [] (lines_of c.args.query.now)) c.in-And.right))) (λ i j n. And i j ∷ []) _ _ c.in_ok-one.ensures c.in_err-two.ensures))
+    rw f.1 (err_puts _ _ _ c.from_residual-in_err-two-in-And.result _ c.from_residual-in_err-two-in-And.ensures.1
+    (second_long _ _ _ (emit_condition (as_cond (at (grow [] (lines_of c.args.query.now)) c.in-And.right))) (λ i j n. And i j ∷ []) _ _ c.in_ok-one-in-And.ensures c.in_err-two-in-And.ensures))
 
-pub returns-in_err-one-2 : goal.returns-in_err-one-2
+pub returns-in_err-one-in-Or : goal.returns-in_err-one-in-Or
 unfolding build emit_condition
-returns-in_err-one-2 t c =
+returns-in_err-one-in-Or t c =
     let f = line_is (lines_of c.args.query.now) c.args.line _ (accepted_ordered (lines_of c.args.query.now) (widths_of c.args.query.now) c.args.query.now.accepted) c.requires (sym c.in-Or.ensures) in
-    rw f.1 (err_puts _ _ _ c.from_residual-in_err-one-2.result _ c.from_residual-in_err-one-2.ensures.1 (front_long _ _ _ _ c.in_err-one-2.ensures))
+    rw f.1 (err_puts _ _ _ c.from_residual-in_err-one-in-Or.result _ c.from_residual-in_err-one-in-Or.ensures.1 (front_long _ _ _ _ c.in_err-one-in-Or.ensures))
 
-pub returns-in_err-two-2 : goal.returns-in_err-two-2
+pub returns-in_err-two-in-Or : goal.returns-in_err-two-in-Or
 unfolding build emit_condition
-returns-in_err-two-2 t c =
+returns-in_err-two-in-Or t c =
     let f = line_is (lines_of c.args.query.now) c.args.line _ (accepted_ordered (lines_of c.args.query.now) (widths_of c.args.query.now) c.args.query.now.accepted) c.requires (sym c.in-Or.ensures) in
-    rw f.1 (err_puts _ _ _ c.from_residual-in_err-two-2.result _ c.from_residual-in_err-two-2.ensures.1
-    (second_long _ _ _ (emit_condition (as_cond (at (grow [] (lines_of c.args.query.now)) c.in-Or.right))) (λ i j n. Or i j ∷ []) _ _ c.in_ok-one-2.ensures c.in_err-two-2.ensures))
+    rw f.1 (err_puts _ _ _ c.from_residual-in_err-two-in-Or.result _ c.from_residual-in_err-two-in-Or.ensures.1
+    (second_long _ _ _ (emit_condition (as_cond (at (grow [] (lines_of c.args.query.now)) c.in-Or.right))) (λ i j n. Or i j ∷ []) _ _ c.in_ok-one-in-Or.ensures c.in_err-two-in-Or.ensures))
 
 pub returns-in-Compare : goal.returns-in-Compare
 unfolding build emit_condition
@@ -89,29 +89,29 @@ returns-in-IsNull t c =
     let f = line_is (lines_of c.args.query.now) c.args.line _ (accepted_ordered (lines_of c.args.query.now) (widths_of c.args.query.now) c.args.query.now.accepted) c.requires (sym c.in-IsNull.ensures) in
     rw f.1 c.push-in-IsNull.ensures
 
-pub returns-in_ok-part : goal.returns-in_ok-part
+pub returns-in_ok-part-in-Not : goal.returns-in_ok-part-in-Not
 unfolding build emit_condition
-returns-in_ok-part t c =
+returns-in_ok-part-in-Not t c =
     let f = line_is (lines_of c.args.query.now) c.args.line _ (accepted_ordered (lines_of c.args.query.now) (widths_of c.args.query.now) c.args.query.now.accepted) c.requires (sym c.in-Not.ensures) in
-    rw f.1 (one_put Not _ _ _ _ _ c.push-in-Not.result c.in_ok-part.ensures c.push-in-Not.ensures)
+    rw f.1 (one_put Not _ _ _ _ _ c.push-in-Not.result c.in_ok-part-in-Not.ensures c.push-in-Not.ensures)
 
-pub returns-in_ok-part-2 : goal.returns-in_ok-part-2
+pub returns-in_ok-part-in-Unknown : goal.returns-in_ok-part-in-Unknown
 unfolding build emit_condition
-returns-in_ok-part-2 t c =
+returns-in_ok-part-in-Unknown t c =
     let f = line_is (lines_of c.args.query.now) c.args.line _ (accepted_ordered (lines_of c.args.query.now) (widths_of c.args.query.now) c.args.query.now.accepted) c.requires (sym c.in-Unknown.ensures) in
-    rw f.1 (one_put Unknown _ _ _ _ _ c.push-in-Unknown.result c.in_ok-part-2.ensures c.push-in-Unknown.ensures)
+    rw f.1 (one_put Unknown _ _ _ _ _ c.push-in-Unknown.result c.in_ok-part-in-Unknown.ensures c.push-in-Unknown.ensures)
 
-pub returns-in_ok-two : goal.returns-in_ok-two
+pub returns-in_ok-two-in-And : goal.returns-in_ok-two-in-And
 unfolding build emit_condition
-returns-in_ok-two t c =
+returns-in_ok-two-in-And t c =
     let f = line_is (lines_of c.args.query.now) c.args.line _ (accepted_ordered (lines_of c.args.query.now) (widths_of c.args.query.now) c.args.query.now.accepted) c.requires (sym c.in-And.ensures) in
-    rw f.1 (two_put And _ _ _ _ _ (emit_condition (as_cond (at (grow [] (lines_of c.args.query.now)) c.in-And.right))) _ _ c.push-in-And.result c.in_ok-one.ensures c.in_ok-two.ensures c.push-in-And.ensures)
+    rw f.1 (two_put And _ _ _ _ _ (emit_condition (as_cond (at (grow [] (lines_of c.args.query.now)) c.in-And.right))) _ _ c.push-in-And.result c.in_ok-one-in-And.ensures c.in_ok-two-in-And.ensures c.push-in-And.ensures)
 
-pub returns-in_ok-two-2 : goal.returns-in_ok-two-2
+pub returns-in_ok-two-in-Or : goal.returns-in_ok-two-in-Or
 unfolding build emit_condition
-returns-in_ok-two-2 t c =
+returns-in_ok-two-in-Or t c =
     let f = line_is (lines_of c.args.query.now) c.args.line _ (accepted_ordered (lines_of c.args.query.now) (widths_of c.args.query.now) c.args.query.now.accepted) c.requires (sym c.in-Or.ensures) in
-    rw f.1 (two_put Or _ _ _ _ _ (emit_condition (as_cond (at (grow [] (lines_of c.args.query.now)) c.in-Or.right))) _ _ c.push-in-Or.result c.in_ok-one-2.ensures c.in_ok-two-2.ensures c.push-in-Or.ensures)
+    rw f.1 (two_put Or _ _ _ _ _ (emit_condition (as_cond (at (grow [] (lines_of c.args.query.now)) c.in-Or.right))) _ _ c.push-in-Or.result c.in_ok-one-in-Or.ensures c.in_ok-two-in-Or.ensures c.push-in-Or.ensures)
 
 pub returns-in_default : goal.returns-in_default
 unfolding emit_condition

@@ -10,28 +10,16 @@ invariant_of-result c =
     let n = c.table_count.result in
     let e = c.table_count.ensures in
     let vs = c.table_widths-widths.result in
-    let f : take n vs ≡ widths_of q = ap (λ v. take v vs) e ∙ c.table_widths-widths.ensures.same in (
-      c.args.room.full,
-      (
-        c.args.room.few,
-        (
-          c.table_widths-widths.ensures.long,
-          (
-            few_so q n e,
-            (
-              least_so q n vs e f,
-              (
-                most_so q n vs f,
-                (
-                  ∣ formed_so (widths_of q) (take n vs) (lines_of q) _ f c.requires (sound_answer (lines_of q) (widths_of q) q.accepted) ∣₁,
-                  tt,
-                ),
-              ),
-            ),
-          ),
-        ),
-      ),
-    )
+    let f : take n vs ≡ widths_of q = ap (λ v. take v vs) e ∙ c.table_widths-widths.ensures.same in
+    record {
+      full = c.args.room.full;
+      few = c.args.room.few;
+      broad = c.table_widths-widths.ensures.long;
+      stock = few_so q n e;
+      least = least_so q n vs e f;
+      most = most_so q n vs f;
+      formed = ∣ formed_so (widths_of q) (take n vs) (lines_of q) _ f c.requires (sound_answer (lines_of q) (widths_of q) q.accepted) ∣₁;
+    }
 
 pub returns : goal.returns
 returns c =
