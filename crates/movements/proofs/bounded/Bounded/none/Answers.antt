@@ -3,4 +3,4 @@ use Rattle.std.proofs.lemmas.List.{length-replicate}
 use Rattle.movements.proofs.bounded.Bounded.none.Goals as goal
 
 pub invariant_of-result : goal.invariant_of-result
-invariant_of-result g c = (omega arith, (length-replicate g.row.N c.args.any, tt))
+invariant_of-result g c = record { small = omega arith; long = length-replicate g.row.N c.args.any }
