@@ -28,9 +28,9 @@ enum Stretch {
 }
 
 impl Input {
-    pub fn of(heap: Global, stdin: Stdin) -> Input {
+    pub fn of(heap: Global, source: BufReader<Stdin>) -> Input {
         Input {
-            source: BufReader::new(stdin),
+            source,
             line: Vec::new(heap),
             is_long: false,
             place: 0,

@@ -13,14 +13,14 @@ use serving::serve;
 use session::session::Session;
 use shelf::shelf::Shelf;
 use std::io;
-use std::io::BufWriter;
+use std::io::{BufReader, BufWriter};
 
 // One more cell than may be lent, so that lending too many can be tried.
 const LENT: usize = 65537;
 
 fn main(rt: HostRuntime) -> io::Result<()> {
     let heap = rt.alloc();
-    let mut input = Input::of(heap, rt.stdin());
+    let mut input = Input::of(heap, BufReader::new(heap, rt.stdin())?);
     let mut out = BufWriter::new(heap, rt.stdout())?;
     let mut lines = Vec::new(heap);
     let mut parts = Parts::none(heap);
