@@ -1,6 +1,6 @@
 -- The weight of a list: the sum of a number for each element. Two lists with the same weights, whatever the numbers, have each row equally often.
 use Rattle.std.proofs.Common.{◌≡◌, ℕ, zero, suc, ◌+◌, ◌≤◌, Bool, true, false, cond, ◌&&◌, ◌||◌, List, [], ◌∷◌, ◌++◌, map, filter, sym, refl, ap, ◌∙◌, zero-add, one-add, arith}
-use Rattle.std.specs.List.{flat_map, AllByRecursion as All}
+use Rattle.std.specs.List.{flat_map, AllByRecursion}
 use Rattle.cells.specs.Cells.{Row, same_row}
 use Rattle.lines.specs.Ops.{count, some_of, without, over_rows}
 pub use Rattle.lines.proofs.Sameness.{same_ℤ_refl, same_ℤ_eq, same_cell_refl, same_cell_eq, same_refl, same_eq, same_split}
@@ -9,11 +9,11 @@ abbrev pub W : {X : Type 0} → (X → ℕ) → List X → ℕ
 W g [] = 0
 W g (x ∷ xs) = g x + W g xs
 
-pub W_all : {X : Type 0} (f g : X → ℕ) (xs : List X) → All (λ x. f x ≡ g x) xs → W f xs ≡ W g xs
+pub W_all : {X : Type 0} (f g : X → ℕ) (xs : List X) → AllByRecursion (λ x. f x ≡ g x) xs → W f xs ≡ W g xs
 W_all f g [] h = refl
 W_all f g (x ∷ xs) h = let e = h.0 in let i = W_all f g xs h.1 in cc
 
-pub all_of : {X : Type 0} {P : X → Type 0} (xs : List X) → ((x : X) → P x) → All P xs
+pub all_of : {X : Type 0} {P : X → Type 0} (xs : List X) → ((x : X) → P x) → AllByRecursion P xs
 all_of [] h = tt
 all_of (x ∷ xs) h = (h x, all_of xs h)
 

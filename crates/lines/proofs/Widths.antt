@@ -1,6 +1,6 @@
 -- Every row of a line has the line's width.
 use Rattle.std.proofs.Common.{◌≡◌, ℕ, zero, suc, ◌+◌, ◌-◌, Bool, true, false, cond, not, List, [], ◌∷◌, ◌++◌, map, length, get_or, take, drop, replicate, filter, refl, ◌∙◌, arith}
-use Rattle.std.specs.List.{flat_map, AllByRecursion as All}
+use Rattle.std.specs.List.{flat_map, AllByRecursion}
 use Rattle.std.proofs.lemmas.List.{length-append, length-take, length-drop, length-replicate}
 use Rattle.std.proofs.ByRecursion.{All-weaker, All-append, all_kept_by}
 use Rattle.cells.specs.Cells.{Row, same_row}
@@ -14,7 +14,7 @@ use Rattle.lines.proofs.Goods.{Good, sound_good}
 
 -- a list of rows of one width
 abbrev pub Wide : ℕ → List Row → Type 0
-Wide w xs = All (λ r. length r ≡ w) xs
+Wide w xs = AllByRecursion (λ r. length r ≡ w) xs
 
 pub wide_map : (h : Row → Row) (w v : ℕ) (xs : List Row) → ((r : Row) → length r ≡ w → length (h r) ≡ v) → Wide w xs → Wide v (map h xs)
 wide_map h w v [] e a = tt
@@ -28,14 +28,14 @@ pub wide_kept : (p : Row → Bool) (w : ℕ) (xs : List Row) → Wide w xs → W
 wide_kept p w xs a = all_kept_by p (λ r. length r ≡ w) xs a
 
 -- what Distinct and Diff keep has what all rows have
-pub all_distinct : (P : Row → Type 0) (xs : List Row) → All P xs → All P (distinct_rows xs)
+pub all_distinct : (P : Row → Type 0) (xs : List Row) → AllByRecursion P xs → AllByRecursion P (distinct_rows xs)
 all_distinct P [] a = tt
 all_distinct P (x ∷ xs) a = (a.0, all_kept_by (λ y. not (same_row x y)) P (distinct_rows xs) (all_distinct P xs a.1))
 
-pub all_diff : (P : Row → Type 0) (xs ys : List Row) → All P xs → All P (diff_rows xs ys)
+pub all_diff : (P : Row → Type 0) (xs ys : List Row) → AllByRecursion P xs → AllByRecursion P (diff_rows xs ys)
 all_diff P [] ys a = tt
 all_diff P (x ∷ xs) ys a =
-    elim (some_of (same_row x) ys) as (λ b. All P (cond b (diff_rows xs (without x ys)) (x ∷ diff_rows xs ys)))
+    elim (some_of (same_row x) ys) as (λ b. AllByRecursion P (cond b (diff_rows xs (without x ys)) (x ∷ diff_rows xs ys)))
     [ true ↦ all_diff P xs (without x ys) a.1 | false ↦ (a.0, all_diff P xs ys a.1) ]
 
 pub wide_distinct : (w : ℕ) (xs : List Row) → Wide w xs → Wide w (distinct_rows xs)
@@ -58,7 +58,7 @@ Fits s = (t : ℕ) → Wide (get_or (widths s) t 0) (rows_at s t)
 pub lawful_fits : (s : List Table) → Lawful s → Fits s
 lawful_fits s l t = go s l.each t
   where
-    go : (s : List Table) → All LawfulTable s → Fits s
+    go : (s : List Table) → AllByRecursion LawfulTable s → Fits s
     go [] a t = tt
     go (x ∷ s) a zero = All-weaker (LawfulRow x.width) (λ r. length r ≡ x.width) (λ r h. h.long) x.rows a.0.each
     go (x ∷ s) a (suc t) = go s a.1 t

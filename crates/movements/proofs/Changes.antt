@@ -1,6 +1,6 @@
 -- What one movement more changes of the tables that a layer shows.
 use Rattle.std.proofs.Common.{◌≡◌, ℕ, zero, suc, ◌+◌, ◌-◌, ◌<◌, ◌≤◌, true, false, cond, eqb, List, [], ◌∷◌, ◌++◌, length, get_or, take, drop, sym, refl, ap, ◌∙◌, subst, ⊎_elim, add-one, arith, length-append}
-use Rattle.std.specs.List.{remove, AllByRecursion as All}
+use Rattle.std.specs.List.{remove, AllByRecursion}
 use Rattle.std.proofs.lemmas.List.Edits.{length-remove}
 use Rattle.std.proofs.lemmas.List.{append-nil, append_assoc, take_all, take_more, drop_more, length-take, take-append-le, drop-append-le}
 use Rattle.std.proofs.lemmas.Bool.{ne_eqb, eq-eqb, cases_eq}
@@ -13,7 +13,7 @@ use Rattle.movements.specs.declared.moved.Added.{Added}
 use Rattle.movements.specs.declared.moved.Hidden.{Hidden}
 
 -- without movements a layer shows the tables below
-unmoved_from : (s : ℕ) (ts : List Table) → All LawfulTable ts → moved_from s [] [] ts ≡ ts
+unmoved_from : (s : ℕ) (ts : List Table) → AllByRecursion LawfulTable ts → moved_from s [] [] ts ≡ ts
 unmoved_from s [] a = refl
 unmoved_from s (x ∷ ts) a =
     cons_both (ap (table_of x.width) (ap (take 65535) (append-nil x.rows) ∙ take_all 65535 x.rows a.0.few)) (unmoved_from (suc s) ts a.1)

@@ -1,7 +1,7 @@
 -- Laws of withdrawals and additions. Assumes nothing.
 use Rattle.std.specs.Prelude.{◌≡◌, ℕ, zero, suc, ◌+◌, ◌-◌, ◌<◌, ◌≤◌, min, Bool, true, false, cond, ◌&&◌, List, [], ◌∷◌, ◌++◌, length, get_or, take, drop, ◌==◌, ◌≢◌, nat_le, nat_lt, slice_index_or, refl}
 use Rattle.std.proofs.Common.{sym, ap, subst, ◌∙◌, ⊎_elim, arith, add-one}
-use Rattle.std.specs.List.{remove, AllByRecursion as All}
+use Rattle.std.specs.List.{remove, AllByRecursion}
 use Rattle.std.proofs.lemmas.Bool.{cases_lt, lt-ltb, le-ltb, le-leb, lt-leb, eq-eqb, ne_eqb, and_parts, and_from}
 use Rattle.std.proofs.lemmas.List.{take_more, take_all, drop_all, append-nil, get_or_past, length-take-le, append_assoc, drop_more, get_or_at, length-take, take-append-drop, take_at, drop_at, length-append, get_or-take, get_or_append_left, get_or-append_right}
 use Rattle.cells.specs.declared.cell.Cell.TheVariants.{Null}
@@ -154,11 +154,11 @@ get_d_moved t ms hs ts l = get_or_moved_from 0 t t ms hs ts (omega arith) l
 pub get_or_moved_past : (t : ℕ) (ms : List Added) (hs : List Hidden) (ts : List Table) → length ts ≤ t → slice_index_or (moved ms hs ts) t no_table ≡ no_table
 get_or_moved_past t ms hs ts l = let e = length_moved ms hs ts in get_or_past (moved ms hs ts) t no_table (omega arith)
 
-all_remaining : (P : List Cell → Type 0) (t : ℕ) (hs : List Hidden) (rs : List Row) → All P rs → All P (remaining t hs rs)
+all_remaining : (P : List Cell → Type 0) (t : ℕ) (hs : List Hidden) (rs : List Row) → AllByRecursion P rs → AllByRecursion P (remaining t hs rs)
 all_remaining P t [] rs a = a
 all_remaining P t (h ∷ hs) rs a =
     all_remaining P t hs (take_out t h rs)
-    (elim (h.table == t) as (λ b. All P (cond b (remove rs h.place) rs))
+    (elim (h.table == t) as (λ b. AllByRecursion P (cond b (remove rs h.place) rs))
     [ true ↦ All-append P (take h.place rs) (drop (suc h.place) rs) (All-take P h.place rs a) (All-drop P (suc h.place) rs a) | false ↦ a ])
 
 every_take : {X : Type 0} (test : X → Bool) (n : ℕ) (xs : List X) → every test xs ≡ true → every test (take n xs) ≡ true
@@ -170,11 +170,11 @@ every_take test (suc n) (x ∷ xs) e =
 pub lawful_added : (w : ℕ) (m : Added) → w ≤ 8 → LawfulRow w (take w m.row)
 lawful_added w m l = record { long = length-take-le w m.row (let e = m.long in omega arith); stored = every_take stored w m.row m.numbers }
 
-all_added : (t w : ℕ) (ms : List Added) → w ≤ 8 → All (LawfulRow w) (added_rows t w ms)
+all_added : (t w : ℕ) (ms : List Added) → w ≤ 8 → AllByRecursion (LawfulRow w) (added_rows t w ms)
 all_added t w [] l = tt
 all_added t w (m ∷ ms) l =
     let e = all_added t w ms l in
-    elim (m.table == t) as (λ b. All (LawfulRow w) (cond b (take w m.row ∷ added_rows t w ms) (added_rows t w ms)))
+    elim (m.table == t) as (λ b. AllByRecursion (LawfulRow w) (cond b (take w m.row ∷ added_rows t w ms) (added_rows t w ms)))
     [ true ↦ (lawful_added w m l, e) | false ↦ e ]
 
 lawful_moved_one : (t : ℕ) (ms : List Added) (hs : List Hidden) (x : Table) → LawfulTable x → LawfulTable (one_moved t ms hs x)
@@ -186,7 +186,7 @@ lawful_moved_one t ms hs x g = record {
       (All-append (LawfulRow x.width) (remaining t hs x.rows) (added_rows t x.width ms) (all_remaining (LawfulRow x.width) t hs x.rows g.each) (all_added t x.width ms g.most));
 }
 
-lawful_moved_from : (s : ℕ) (ms : List Added) (hs : List Hidden) (ts : List Table) → All LawfulTable ts → All LawfulTable (moved_from s ms hs ts)
+lawful_moved_from : (s : ℕ) (ms : List Added) (hs : List Hidden) (ts : List Table) → AllByRecursion LawfulTable ts → AllByRecursion LawfulTable (moved_from s ms hs ts)
 lawful_moved_from s ms hs [] a = tt
 lawful_moved_from s ms hs (x ∷ ts) a = (lawful_moved_one s ms hs x a.0, lawful_moved_from (suc s) ms hs ts a.1)
 

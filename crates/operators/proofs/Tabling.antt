@@ -1,7 +1,7 @@
 -- A table's rows, laid one after another.
 use Rattle.std.proofs.Common.{◌≡◌, ℕ, ◌+◌, ◌-◌, ◌*◌, ◌<◌, ◌≤◌, List, [], ◌∷◌, ◌++◌, length, get_or, take, sym, refl, ap, ◌∙◌, subst, ⊎_elim, add-mul, mul-le-mul, one-mul, arith}
 use lib.Seq.{paste}
-use Rattle.std.specs.List.{AllByRecursion as All}
+use Rattle.std.specs.List.{AllByRecursion}
 use Rattle.std.proofs.lemmas.List.{take_more, take_all, get_or_past}
 use Rattle.std.proofs.lemmas.Bool.{cases_lt}
 use Rattle.std.proofs.ByRecursion.{All-get_or}
@@ -15,7 +15,7 @@ use Rattle.operators.proofs.Puts.{put_paste}
 table_at : (ts : List Table) (t : ℕ) → Lawful ts → t < length ts → LawfulTable (get_or ts t no_table)
 table_at ts t l h = All-get_or LawfulTable ts t no_table h l.each
 
-lawful_rows : (ts : List Table) (t : ℕ) → Lawful ts → All (LawfulRow (width_of ts t)) (rows_at ts t)
+lawful_rows : (ts : List Table) (t : ℕ) → Lawful ts → AllByRecursion (LawfulRow (width_of ts t)) (rows_at ts t)
 lawful_rows ts t l = ⊎_elim (λ h. (table_at ts t l h).each) (λ k. rw (get_or_past ts t no_table k) tt) (cases_lt t (length ts))
 
 pub row_long : (ts : List Table) (t p : ℕ) → Lawful ts → p < rows_of ts t → length (get_or (rows_at ts t) p []) ≡ width_of ts t

@@ -1,6 +1,6 @@
 -- An aggregate worked out row by row.
 use Rattle.std.specs.Prelude.{◌≡◌, ℕ, ◌*◌, Bool, true, cond, List, [], ◌∷◌, ◌++◌, map, take, ℤ, pos, neg_ℤ, ◌≤ℤ◌, Some, None, filter, Option, slice_index_or}
-use Rattle.std.specs.List.{AllByRecursion as All}
+use Rattle.std.specs.List.{AllByRecursion}
 use Rattle.cells.specs.Cells.{Row, stored, same_row, less_ℤ}
 use Rattle.cells.specs.declared.cell.Cell.{Cell}
 use Rattle.cells.specs.declared.cell.Cell.TheVariants.{Null, Number}
@@ -19,7 +19,7 @@ addable Greatest c = true
 
 -- every row's cell in column k of the long row may be added
 abbrev pub Addable : Aggregate → ℕ → Row → List Row → Type 0
-Addable f k d xs = All (λ r. addable f (slice_index_or (d ++ r) k Null) ≡ true) xs
+Addable f k d xs = AllByRecursion (λ r. addable f (slice_index_or (d ++ r) k Null) ≡ true) xs
 
 -- what a cell adds to a count or a sum
 abbrev pub adds : Aggregate → Cell → ℤ

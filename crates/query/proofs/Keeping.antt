@@ -1,6 +1,6 @@
 -- Rows whose unmarked columns are in store.
 use Rattle.std.proofs.Common.{◌≡◌, ℕ, ◌+◌, ◌≤◌, Bool, true, false, cond, not, List, [], ◌∷◌, length, get_or, pos, refl, ap, arith}
-use Rattle.std.specs.List.{flat_map, AllByRecursion as All}
+use Rattle.std.specs.List.{flat_map, AllByRecursion}
 use Rattle.std.proofs.ByRecursion.{All-append, all_kept_by}
 use Rattle.std.proofs.lemmas.Bool.{lt-ltb}
 use Rattle.lines.specs.declared.line.Aggregate.{Aggregate}
@@ -20,11 +20,11 @@ truth_in_store False = refl
 truth_in_store Unknown = refl
 
 -- what holds of rows, through the operators
-pub all_joined : (P : Row → Type 0) (Q : Row → Type 0) (h : Row → List Row) (xs : List Row) → ((x : Row) → Q x → All P (h x)) → All Q xs → All P (flat_map h xs)
+pub all_joined : (P : Row → Type 0) (Q : Row → Type 0) (h : Row → List Row) (xs : List Row) → ((x : Row) → Q x → AllByRecursion P (h x)) → AllByRecursion Q xs → AllByRecursion P (flat_map h xs)
 all_joined P Q h [] f a = tt
 all_joined P Q h (x ∷ xs) f a = All-append P (h x) (flat_map h xs) (f x a.0) (all_joined P Q h xs f a.1)
 
-pub all_both : {X : Type 0} (P Q : X → Type 0) (xs : List X) → All P xs → All Q xs → All (λ x. P x × Q x) xs
+pub all_both : {X : Type 0} (P Q : X → Type 0) (xs : List X) → AllByRecursion P xs → AllByRecursion Q xs → AllByRecursion (λ x. P x × Q x) xs
 all_both P Q [] a b = tt
 all_both P Q (x ∷ xs) a b = ((a.0, b.0), all_both P Q xs a.1 b.1)
 
@@ -57,16 +57,16 @@ greatest_in_store Null b h k = k
 greatest_in_store (Number x) Null h k = h
 greatest_in_store (Number x) (Number y) h k = elim (less_ℤ x y) as (λ v. stored (Number (cond v y x)) ≡ true) [ true ↦ k | false ↦ h ]
 
-least_folded : (k : ℕ) (xs : List Row) → All (λ x. InStore (get_or x k Null)) xs → InStore (folded Least k xs)
+least_folded : (k : ℕ) (xs : List Row) → AllByRecursion (λ x. InStore (get_or x k Null)) xs → InStore (folded Least k xs)
 least_folded k [] a = refl
 least_folded k (x ∷ xs) a = least_in_store (get_or x k Null) (folded Least k xs) a.0 (least_folded k xs a.1)
 
-greatest_folded : (k : ℕ) (xs : List Row) → All (λ x. InStore (get_or x k Null)) xs → InStore (folded Greatest k xs)
+greatest_folded : (k : ℕ) (xs : List Row) → AllByRecursion (λ x. InStore (get_or x k Null)) xs → InStore (folded Greatest k xs)
 greatest_folded k [] a = refl
 greatest_folded k (x ∷ xs) a = greatest_in_store (get_or x k Null) (folded Greatest k xs) a.0 (greatest_folded k xs a.1)
 
 -- b says whether column k is marked
-pub fold_in_store : (f : Aggregate) (b : Bool) (k : ℕ) (xs : List Row) → length xs ≤ 65536 → (b ≡ false → All (λ x. InStore (get_or x k Null)) xs) → fold_from f b ≡ false → InStore (folded f k xs)
+pub fold_in_store : (f : Aggregate) (b : Bool) (k : ℕ) (xs : List Row) → length xs ≤ 65536 → (b ≡ false → AllByRecursion (λ x. InStore (get_or x k Null)) xs) → fold_from f b ≡ false → InStore (folded f k xs)
 fold_in_store Rows b k xs h a e = rw (counted_rows k xs) (small_in_store (length xs) h)
 fold_in_store Filled b k xs h a e = let m = counted_filled k xs in rw m.2 (small_in_store m.0 (omega (arith, m.1)))
 fold_in_store Sum b k xs h a e = let z : ◌≡◌ {A = ℕ} 0 1 = cc in absurd (omega arith)

@@ -1,6 +1,6 @@
 -- Columns that come from no sum hold numbers of the stored range.
 use Rattle.std.proofs.Common.{◌≡◌, ℕ, zero, suc, ◌-◌, ◌*◌, ◌<◌, ◌≤◌, Bool, true, false, cond, List, [], ◌∷◌, ◌++◌, map, length, get_or, take, drop, replicate, ℤ, pos, negsuc, ◌+ℤ◌, ◌≤ℤ◌, filter, sym, refl, ap, ◌∙◌, subst, arith}
-use Rattle.std.specs.List.{AllByRecursion as All}
+use Rattle.std.specs.List.{AllByRecursion}
 use Rattle.std.proofs.lemmas.List.{length-map, length-replicate}
 use Rattle.std.proofs.ByRecursion.{All-append, All-weaker, all_kept_by, All-map}
 use Rattle.std.proofs.lemmas.Bool.{or_parts, and_parts, ltb-true}
@@ -48,7 +48,7 @@ kept_length [] (c ∷ r) a = absurd a
 kept_length (x ∷ m) [] a = absurd a
 kept_length (x ∷ m) (c ∷ r) a = ap suc (kept_length m r a.1)
 
-kept_stored : (w : ℕ) (r : Row) → length r ≡ w → All InStore r → Kept (replicate w false) r
+kept_stored : (w : ℕ) (r : Row) → length r ≡ w → AllByRecursion InStore r → Kept (replicate w false) r
 kept_stored zero [] e a = tt
 kept_stored zero (c ∷ r) e a = absurd (omega arith)
 kept_stored (suc w) [] e a = absurd (omega arith)
@@ -60,7 +60,7 @@ kept_nulls [] (suc w) e = absurd (omega arith)
 kept_nulls (x ∷ m) zero e = absurd (omega arith)
 kept_nulls (x ∷ m) (suc w) e = (λ z. refl, kept_nulls m w (omega arith))
 
-nulls : (m : ℕ) → All InStore (replicate m Null)
+nulls : (m : ℕ) → AllByRecursion InStore (replicate m Null)
 nulls zero = tt
 nulls (suc m) = (refl, nulls m)
 
@@ -95,7 +95,7 @@ few_kept {N = N} p xs h = omega (arith, go xs)
     go [] = omega arith
     go (x ∷ xs) = elim (p x) as (λ b. length (cond b (x ∷ filter p xs) (filter p xs)) ≤ length (x ∷ xs)) [ true ↦ omega (arith, go xs) | false ↦ omega (arith, go xs) ]
 
-every_all : (r : Row) → every stored r ≡ true → All InStore r
+every_all : (r : Row) → every stored r ≡ true → AllByRecursion InStore r
 every_all [] e = tt
 every_all (c ∷ r) e = let f = and_parts (stored c) (every stored r) e in (f.0, every_all r f.1)
 
@@ -111,25 +111,25 @@ step_bound : (c : Cell) → InStore c → (n : ℕ) (z : ℤ) → Bounded n z �
 step_bound Null h n z b a e = (z, e, (omega (arith, ints, b.0), omega (arith, ints, b.1)))
 step_bound (Number w) h n z b a e = let r = stored_range w h in (w +ℤ z, rw e refl, (omega (arith, ints, b.0, r.0), omega (arith, ints, b.1, r.1)))
 
-bounded : (k : ℕ) (xs : List Row) → All (λ x. InStore (get_or x k Null)) xs → (z : ℤ) × (folded Sum k xs ≡ Number z) × Bounded (length xs) z
+bounded : (k : ℕ) (xs : List Row) → AllByRecursion (λ x. InStore (get_or x k Null)) xs → (z : ℤ) × (folded Sum k xs ≡ Number z) × Bounded (length xs) z
 bounded k [] a = (pos 0, refl, (omega (arith, ints), omega (arith, ints)))
 bounded k (x ∷ xs) a =
     let b = bounded k xs a.1 in
     step_bound (get_or x k Null) a.0 (length xs) b.0 b.2 (folded Sum k xs) b.1
 
-moderate : (k : ℕ) (xs : List Row) → length xs ≤ 65536 → All (λ x. InStore (get_or x k Null)) xs → Moderate (folded Sum k xs)
+moderate : (k : ℕ) (xs : List Row) → length xs ≤ 65536 → AllByRecursion (λ x. InStore (get_or x k Null)) xs → Moderate (folded Sum k xs)
 moderate k xs h a =
     let b = bounded k xs a in
     let n = b.2 in
     subst Moderate (sym b.1) (omega (arith, ints, n.0, h), omega (arith, ints, n.1, h))
 
-added : (f : Aggregate) (k : ℕ) (d m : Marks) (x : Row) (ys : List Row) → summed f (get_or (d ++ m) k false) ≡ false → Kept d x → All (Kept m) ys → length ys ≤ 65536 → Adds f k x ys
+added : (f : Aggregate) (k : ℕ) (d m : Marks) (x : Row) (ys : List Row) → summed f (get_or (d ++ m) k false) ≡ false → Kept d x → AllByRecursion (Kept m) ys → length ys ≤ 65536 → Adds f k x ys
 added Rows k d m x ys z kd K h = tt
 added Filled k d m x ys z kd K h = tt
 added Least k d m x ys z kd K h = tt
 added Greatest k d m x ys z kd K h = tt
 added Sum k d m x ys z kd K h =
-    let a : All (λ r. InStore (get_or (x ++ r) k Null)) ys = All-weaker (Kept m) (λ r. InStore (get_or (x ++ r) k Null)) (λ r u. kept_at (d ++ m) (x ++ r) k (kept_append d m x r kd u) z) ys K in (
+    let a : AllByRecursion (λ r. InStore (get_or (x ++ r) k Null)) ys = All-weaker (Kept m) (λ r. InStore (get_or (x ++ r) k Null)) (λ r u. kept_at (d ++ m) (x ++ r) k (kept_append d m x r kd u) z) ys K in (
       a,
       moderate k (map (λ r. x ++ r) ys) (rw (length-map ys (λ r. x ++ r)) h) (All-map (λ v. InStore (get_or v k Null)) (λ r. x ++ r) ys a),
       λ p. moderate k (map (λ r. x ++ r) (filter p ys)) (rw (length-map (filter p ys) (λ r. x ++ r)) (few_kept p ys h))
@@ -140,17 +140,17 @@ module _ (s : List Table) (L : Lawful s) where
   abbrev ws : List ℕ
   ws = widths s
 
-  fold_kept : (f : Aggregate) (k : ℕ) (d m : Marks) (x : Row) (ys : List Row) → Kept d x → length ys ≤ 65536 → All (Kept m) ys → fold_from f (get_or (d ++ m) k false) ≡ false → InStore (folded f k (map (λ r. x ++ r) ys))
+  fold_kept : (f : Aggregate) (k : ℕ) (d m : Marks) (x : Row) (ys : List Row) → Kept d x → length ys ≤ 65536 → AllByRecursion (Kept m) ys → fold_from f (get_or (d ++ m) k false) ≡ false → InStore (folded f k (map (λ r. x ++ r) ys))
   fold_kept f k d m x ys kd n a z =
       fold_in_store f (get_or (d ++ m) k false) k (map (λ r. x ++ r) ys) (rw (length-map ys (λ r. x ++ r)) n)
       (λ e. All-map (λ v. InStore (get_or v k Null)) (λ r. x ++ r) ys (All-weaker (Kept m) (λ r. InStore (get_or (x ++ r) k Null)) (λ r u. kept_at (d ++ m) (x ++ r) k (kept_append d m x r kd u) e) ys a)) z
 
-  outer_kept : (m n : Marks) (w : ℕ) (x : Row) → Kept m x → length n ≡ w → (ys : List Row) → All (Kept n) ys → All (Kept (m ++ n)) (outer_rows w x ys)
+  outer_kept : (m n : Marks) (w : ℕ) (x : Row) → Kept m x → length n ≡ w → (ys : List Row) → AllByRecursion (Kept n) ys → AllByRecursion (Kept (m ++ n)) (outer_rows w x ys)
   outer_kept m n w x a e [] u = (kept_append m n x (replicate w Null) a (kept_nulls n w e), tt)
   outer_kept m n w x a e (y ∷ ys) u = All-map (Kept (m ++ n)) (λ v. x ++ v) (y ∷ ys) (All-weaker (Kept n) (λ v. Kept (m ++ n) (x ++ v)) (λ v b. kept_append m n x v a b) (y ∷ ys) u)
 
   -- in a context row that keeps its marks, every row keeps its own
-  pub law : (t : Tree) (d : Marks) (x : Row) → Sound ws d t → Kept d x → Calm s t x → All (Kept (own ws d t)) (rows s t x)
+  pub law : (t : Tree) (d : Marks) (x : Row) → Sound ws d t → Kept d x → Calm s t x → AllByRecursion (Kept (own ws d t)) (rows s t x)
   unfolding own Sound rows Calm
   law (table t) d x S kd k =
       All-weaker (LawfulRow (width_of s t)) (Kept (replicate (get_or ws t 0) false)) (λ r f. kept_stored (get_or ws t 0) r (f.long ∙ sym (width_is s t)) (every_all r f.stored))
@@ -205,7 +205,7 @@ module _ (s : List Table) (L : Lawful s) where
   law (all g j l r) d x S kd k =
       All-map _ _ (rows s l x) (All-weaker (Kept (own ws d l)) _ (λ y a. kept_append (own ws d l) (false ∷ []) y _ a (λ z. truth_in_store _, tt)) (rows s l x) (law l d x S.3 kd k.0))
 
-  inside : (l r : Tree) (d : Marks) (x : Row) → Kept d x → All (Kept (own ws d l)) (rows s l x) → All (λ y. Calm s r (x ++ y)) (rows s l x) → ((y : Row) → Kept (d ++ own ws d l) (x ++ y) → Calm s r (x ++ y) → SumsStored s r (x ++ y)) → All (λ y. SumsStored s r (x ++ y)) (rows s l x)
+  inside : (l r : Tree) (d : Marks) (x : Row) → Kept d x → AllByRecursion (Kept (own ws d l)) (rows s l x) → AllByRecursion (λ y. Calm s r (x ++ y)) (rows s l x) → ((y : Row) → Kept (d ++ own ws d l) (x ++ y) → Calm s r (x ++ y) → SumsStored s r (x ++ y)) → AllByRecursion (λ y. SumsStored s r (x ++ y)) (rows s l x)
   inside l r d x kd K C h =
       All-weaker (λ y. Kept (own ws d l) y × Calm s r (x ++ y)) (λ y. SumsStored s r (x ++ y)) (λ y a. h y (kept_append d (own ws d l) x y kd a.0) a.1) (rows s l x)
       (all_both (Kept (own ws d l)) (λ y. Calm s r (x ++ y)) (rows s l x) K C)

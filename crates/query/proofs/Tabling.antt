@@ -1,6 +1,6 @@
 -- The widths of a stock's tables, and what a query holds.
 use Rattle.std.proofs.Common.{◌≡◌, ℕ, zero, suc, ◌+◌, ◌<◌, ◌≤◌, List, [], ◌∷◌, length, get_or, take, set, sym, refl, ap, ◌∙◌, inl, inr, arith}
-use Rattle.std.specs.List.{AllByRecursion as All}
+use Rattle.std.specs.List.{AllByRecursion}
 use Rattle.std.proofs.lemmas.List.{length-map, length-take-le, take_all, take_more, take_more_set, get_or_past}
 use Rattle.std.proofs.lemmas.Bool.{cases_lt}
 use Rattle.stock.specs.Tables.{Table, Lawful, LawfulTable, no_table, width_of, widths}
@@ -21,7 +21,7 @@ width_is (x ∷ ts) (suc t) = width_is ts t
 pub count_is : (ts : List Table) → length (widths ts) ≡ length ts
 count_is ts = length-map ts (λ t. t.width)
 
-pub lawful_at : (ts : List Table) → All LawfulTable ts → (t : ℕ) → t < length ts → LawfulTable (get_or ts t no_table)
+pub lawful_at : (ts : List Table) → AllByRecursion LawfulTable ts → (t : ℕ) → t < length ts → LawfulTable (get_or ts t no_table)
 lawful_at [] a t h = absurd (omega arith)
 lawful_at (x ∷ ts) a zero h = a.0
 lawful_at (x ∷ ts) a (suc t) h = lawful_at ts a.1 t (omega arith)

@@ -1,6 +1,6 @@
 -- Which cells hold stored numbers, and how large a sum can get.
 use Rattle.std.specs.Prelude.{◌≡◌, ℕ, ◌≤◌, Bool, true, false, List, [], ◌∷◌, ◌++◌, map, length, pos, negsuc, ◌≤ℤ◌, filter, slice_index_or}
-use Rattle.std.specs.List.{AllByRecursion as All}
+use Rattle.std.specs.List.{AllByRecursion}
 use Rattle.cells.specs.Cells.{Row, stored}
 use Rattle.cells.specs.declared.cell.Cell.{Cell}
 use Rattle.cells.specs.declared.cell.Cell.TheVariants.{Null, Number}
@@ -31,12 +31,12 @@ Calm s (diff l r) d = Calm s l d × Calm s r d
 Calm s (distinct e) d = Calm s e d
 Calm s (group n f k e) d = (length (rows s e d) ≤ 65536) × Calm s e d
 Calm s (total f k e) d = (length (rows s e d) ≤ 65536) × Calm s e d
-Calm s (cross l r) d = Calm s l d × All (λ x. Calm s r (d ++ x)) (rows s l d)
-Calm s (outer l r) d = Calm s l d × All (λ x. Calm s r (d ++ x)) (rows s l d)
-Calm s (semi l r) d = Calm s l d × All (λ x. Calm s r (d ++ x)) (rows s l d)
-Calm s (anti l r) d = Calm s l d × All (λ x. Calm s r (d ++ x)) (rows s l d)
-Calm s (some g k l r) d = Calm s l d × All (λ x. Calm s r (d ++ x)) (rows s l d)
-Calm s (all g k l r) d = Calm s l d × All (λ x. Calm s r (d ++ x)) (rows s l d)
+Calm s (cross l r) d = Calm s l d × AllByRecursion (λ x. Calm s r (d ++ x)) (rows s l d)
+Calm s (outer l r) d = Calm s l d × AllByRecursion (λ x. Calm s r (d ++ x)) (rows s l d)
+Calm s (semi l r) d = Calm s l d × AllByRecursion (λ x. Calm s r (d ++ x)) (rows s l d)
+Calm s (anti l r) d = Calm s l d × AllByRecursion (λ x. Calm s r (d ++ x)) (rows s l d)
+Calm s (some g k l r) d = Calm s l d × AllByRecursion (λ x. Calm s r (d ++ x)) (rows s l d)
+Calm s (all g k l r) d = Calm s l d × AllByRecursion (λ x. Calm s r (d ++ x)) (rows s l d)
 
 -- a row of as many cells as marks, of which those that are not marked are in store
 abbrev pub Kept : List Bool → Row → Type 0
@@ -54,7 +54,7 @@ Moderate (Number z) = (negsuc 140737488355327 ≤ℤ z) × (z ≤ℤ pos 1407374
 abbrev pub Adds : Aggregate → ℕ → Row → List Row → Type 0
 Adds Rows k d xs = Unit {0}
 Adds Filled k d xs = Unit {0}
-Adds Sum k d xs = All (λ r. InStore (slice_index_or (d ++ r) k Null)) xs × Moderate (folded Sum k (map (λ r. d ++ r) xs)) × ((p : Row → Bool) → Moderate (folded Sum k (map (λ r. d ++ r) (filter p xs))))
+Adds Sum k d xs = AllByRecursion (λ r. InStore (slice_index_or (d ++ r) k Null)) xs × Moderate (folded Sum k (map (λ r. d ++ r) xs)) × ((p : Row → Bool) → Moderate (folded Sum k (map (λ r. d ++ r) (filter p xs))))
 Adds Least k d xs = Unit {0}
 Adds Greatest k d xs = Unit {0}
 
@@ -75,12 +75,12 @@ SumsStored s (diff l r) d = SumsStored s l d × SumsStored s r d
 SumsStored s (distinct e) d = SumsStored s e d
 SumsStored s (group n f k e) d = Adds f k d (rows s e d) × SumsStored s e d
 SumsStored s (total f k e) d = Adds f k d (rows s e d) × SumsStored s e d
-SumsStored s (cross l r) d = SumsStored s l d × All (λ x. SumsStored s r (d ++ x)) (rows s l d)
-SumsStored s (outer l r) d = SumsStored s l d × All (λ x. SumsStored s r (d ++ x)) (rows s l d)
-SumsStored s (semi l r) d = SumsStored s l d × All (λ x. SumsStored s r (d ++ x)) (rows s l d)
-SumsStored s (anti l r) d = SumsStored s l d × All (λ x. SumsStored s r (d ++ x)) (rows s l d)
-SumsStored s (some g k l r) d = SumsStored s l d × All (λ x. SumsStored s r (d ++ x)) (rows s l d)
-SumsStored s (all g k l r) d = SumsStored s l d × All (λ x. SumsStored s r (d ++ x)) (rows s l d)
+SumsStored s (cross l r) d = SumsStored s l d × AllByRecursion (λ x. SumsStored s r (d ++ x)) (rows s l d)
+SumsStored s (outer l r) d = SumsStored s l d × AllByRecursion (λ x. SumsStored s r (d ++ x)) (rows s l d)
+SumsStored s (semi l r) d = SumsStored s l d × AllByRecursion (λ x. SumsStored s r (d ++ x)) (rows s l d)
+SumsStored s (anti l r) d = SumsStored s l d × AllByRecursion (λ x. SumsStored s r (d ++ x)) (rows s l d)
+SumsStored s (some g k l r) d = SumsStored s l d × AllByRecursion (λ x. SumsStored s r (d ++ x)) (rows s l d)
+SumsStored s (all g k l r) d = SumsStored s l d × AllByRecursion (λ x. SumsStored s r (d ++ x)) (rows s l d)
 
 -- over every stock with these widths: sums are of stored numbers as long as what is folded has at most 65,536 rows
 abbrev pub StoredLaw : List ℕ → Tree → Type 0

@@ -1,6 +1,6 @@
 -- Laws of a table's entries.
 use Rattle.std.proofs.Common.{◌≡◌, ℕ, zero, suc, ◌+◌, ◌<◌, ◌≤◌, true, false, List, [], ◌∷◌, ◌++◌, map, length, get_or, refl, ap, ◌∙◌, arith}
-use Rattle.std.specs.List.{remove, AllByRecursion as All}
+use Rattle.std.specs.List.{remove, AllByRecursion}
 use Rattle.cells.specs.Cells.{Row}
 use Rattle.session.specs.Model.{Entry, stocked, hidden, added, ModelTable, shown_rows, take_entry, added_at, restored, is_added, is_hidden, count_by, total_by, rewritten, no_entries}
 use Rattle.session.specs.Tracks.{OfStock, row_of}
@@ -23,7 +23,7 @@ pub rows_stocked : (rs : List Row) → map row_of (map stocked rs) ≡ rs
 rows_stocked [] = refl
 rows_stocked (r ∷ rs) = ap (λ x. r ∷ x) (rows_stocked rs)
 
-pub olds_stocked : (rs : List Row) → All OfStock (map stocked rs)
+pub olds_stocked : (rs : List Row) → AllByRecursion OfStock (map stocked rs)
 olds_stocked [] = tt
 olds_stocked (r ∷ rs) = (tt, olds_stocked rs)
 
@@ -45,21 +45,21 @@ shown_rows_take_entry (hidden r ∷ es) p = shown_rows_take_entry es p
 shown_rows_take_entry (added r ∷ es) zero = refl
 shown_rows_take_entry (added r ∷ es) (suc p) = ap (λ x. r ∷ x) (shown_rows_take_entry es p)
 
-pub rows_take_entry : (es : List Entry) (p : ℕ) → All OfStock es → map row_of (take_entry es p) ≡ map row_of es
+pub rows_take_entry : (es : List Entry) (p : ℕ) → AllByRecursion OfStock es → map row_of (take_entry es p) ≡ map row_of es
 rows_take_entry [] p a = refl
 rows_take_entry (stocked r ∷ es) zero a = refl
 rows_take_entry (stocked r ∷ es) (suc p) a = ap (λ x. r ∷ x) (rows_take_entry es p a.1)
 rows_take_entry (hidden r ∷ es) p a = ap (λ x. r ∷ x) (rows_take_entry es p a.1)
 rows_take_entry (added r ∷ es) p a = absurd a.0
 
-pub olds_take_entry : (es : List Entry) (p : ℕ) → All OfStock es → All OfStock (take_entry es p)
+pub olds_take_entry : (es : List Entry) (p : ℕ) → AllByRecursion OfStock es → AllByRecursion OfStock (take_entry es p)
 olds_take_entry [] p a = tt
 olds_take_entry (stocked r ∷ es) zero a = (tt, a.1)
 olds_take_entry (stocked r ∷ es) (suc p) a = (tt, olds_take_entry es p a.1)
 olds_take_entry (hidden r ∷ es) p a = (tt, olds_take_entry es p a.1)
 olds_take_entry (added r ∷ es) p a = absurd a.0
 
-pub hidden_take_entry : (es : List Entry) (p : ℕ) → All OfStock es → p < length (shown_rows es) → count_by is_hidden (take_entry es p) ≡ count_by is_hidden es + 1
+pub hidden_take_entry : (es : List Entry) (p : ℕ) → AllByRecursion OfStock es → p < length (shown_rows es) → count_by is_hidden (take_entry es p) ≡ count_by is_hidden es + 1
 hidden_take_entry [] p a l = absurd (omega arith)
 hidden_take_entry (stocked r ∷ es) zero a l = omega arith
 hidden_take_entry (stocked r ∷ es) (suc p) a l = let k = hidden_take_entry es p a.1 (omega arith) in omega arith
@@ -72,14 +72,14 @@ take_entry_added [] (suc p) = refl
 take_entry_added (r ∷ rs) zero = refl
 take_entry_added (r ∷ rs) (suc p) = ap (λ x. added r ∷ x) (take_entry_added rs p)
 
-pub take_entry_own : (es : List Entry) (rs : List Row) (p k : ℕ) → All OfStock es → length (shown_rows es) + k ≡ p → take_entry (es ++ map added rs) p ≡ es ++ map added (remove rs k)
+pub take_entry_own : (es : List Entry) (rs : List Row) (p k : ℕ) → AllByRecursion OfStock es → length (shown_rows es) + k ≡ p → take_entry (es ++ map added rs) p ≡ es ++ map added (remove rs k)
 take_entry_own [] rs p k a e = let z : p ≡ k = omega arith in ap (take_entry (map added rs)) z ∙ take_entry_added rs k
 take_entry_own (stocked r ∷ es) rs zero k a e = absurd (omega arith)
 take_entry_own (stocked r ∷ es) rs (suc p) k a e = ap (λ x. stocked r ∷ x) (take_entry_own es rs p k a.1 (omega arith))
 take_entry_own (hidden r ∷ es) rs p k a e = ap (λ x. hidden r ∷ x) (take_entry_own es rs p k a.1 e)
 take_entry_own (added r ∷ es) rs p k a e = absurd a.0
 
-pub added_at_front : (es fs : List Entry) (p : ℕ) → All OfStock es → p < length (shown_rows es) → added_at (es ++ fs) p ≡ false
+pub added_at_front : (es fs : List Entry) (p : ℕ) → AllByRecursion OfStock es → p < length (shown_rows es) → added_at (es ++ fs) p ≡ false
 added_at_front [] fs p a l = absurd (omega arith)
 added_at_front (stocked r ∷ es) fs zero a l = refl
 added_at_front (stocked r ∷ es) fs (suc p) a l = added_at_front es fs p a.1 (omega arith)
@@ -91,14 +91,14 @@ added_at_added [] p l = absurd (omega arith)
 added_at_added (r ∷ rs) zero l = refl
 added_at_added (r ∷ rs) (suc p) l = added_at_added rs p (omega arith)
 
-pub added_at_own : (es : List Entry) (rs : List Row) (p : ℕ) → All OfStock es → length (shown_rows es) ≤ p → p < length (shown_rows es) + length rs → added_at (es ++ map added rs) p ≡ true
+pub added_at_own : (es : List Entry) (rs : List Row) (p : ℕ) → AllByRecursion OfStock es → length (shown_rows es) ≤ p → p < length (shown_rows es) + length rs → added_at (es ++ map added rs) p ≡ true
 added_at_own [] rs p a k l = added_at_added rs p (omega arith)
 added_at_own (stocked r ∷ es) rs zero a k l = absurd (omega arith)
 added_at_own (stocked r ∷ es) rs (suc p) a k l = added_at_own es rs p a.1 (omega arith) (omega arith)
 added_at_own (hidden r ∷ es) rs p a k l = added_at_own es rs p a.1 k l
 added_at_own (added r ∷ es) rs p a k l = absurd a.0
 
-pub restored_is : (es : List Entry) (rs : List Row) → All OfStock es → restored (es ++ map added rs) ≡ map stocked (map row_of es)
+pub restored_is : (es : List Entry) (rs : List Row) → AllByRecursion OfStock es → restored (es ++ map added rs) ≡ map stocked (map row_of es)
 restored_is [] [] a = refl
 restored_is [] (r ∷ rs) a = restored_is [] rs a
 restored_is (stocked r ∷ es) rs a = ap (λ x. stocked r ∷ x) (restored_is es rs a.1)
@@ -110,7 +110,7 @@ pub count_append : (mark : Entry → ℕ) (a b : List Entry) → count_by mark (
 count_append mark [] b = omega arith
 count_append mark (e ∷ a) b = let k = count_append mark a b in omega arith
 
-pub added_olds : (es : List Entry) → All OfStock es → count_by is_added es ≡ 0
+pub added_olds : (es : List Entry) → AllByRecursion OfStock es → count_by is_added es ≡ 0
 added_olds [] a = refl
 added_olds (stocked r ∷ es) a = let k = added_olds es a.1 in omega arith
 added_olds (hidden r ∷ es) a = let k = added_olds es a.1 in omega arith

@@ -1,6 +1,6 @@
 -- An ask or a run, from what it ensures to the model.
 use Rattle.std.proofs.Common.{◌≡◌, ℕ, ◌-◌, ◌*◌, Bool, true, false, cond, leb, List, [], ◌∷◌, ◌++◌, length, replicate, Some, None, Err, Option, Result, sym, refl, ap, ◌∙◌, subst, ap₂, suc-mul, zero-mul, arith}
-use Rattle.std.specs.List.{AllByRecursion as All}
+use Rattle.std.specs.List.{AllByRecursion}
 use Rattle.std.proofs.lemmas.List.{length-append}
 use Rattle.cells.specs.Cells.{Row}
 use Rattle.cells.specs.declared.cell.Cell.{Cell}
@@ -34,7 +34,7 @@ use Rattle.session.specs.declared.session.Session.{Session}
 use Rattle.session.proofs.Steps.{tracks_show, wide}
 
 -- rows of one width
-cells_laid : (w : ℕ) (rs : List Row) → All (λ r. length r ≡ w) rs → length (laid_out rs) ≡ length rs * w
+cells_laid : (w : ℕ) (rs : List Row) → AllByRecursion (λ r. length r ≡ w) rs → length (laid_out rs) ≡ length rs * w
 cells_laid w [] h = sym (zero-mul w)
 cells_laid w (r ∷ rs) h = omega (arith, length-append r (laid_out rs), cells_laid w rs h.1, h.0, suc-mul (length rs) w)
 
@@ -44,7 +44,7 @@ answer_is false out k w = refl
 answer_is true None k w = refl
 answer_is true (Some line) k w = refl
 
-cells_are : (few : Bool) (out : Option ℕ) (rs : List Row) (w : ℕ) (cells : List Cell) → All (λ r. length r ≡ w) rs → cond few (filled out (length cells) rs w) cells ≡ written (cond few (out_at out) (Some ManyCells)) rs cells
+cells_are : (few : Bool) (out : Option ℕ) (rs : List Row) (w : ℕ) (cells : List Cell) → AllByRecursion (λ r. length r ≡ w) rs → cond few (filled out (length cells) rs w) cells ≡ written (cond few (out_at out) (Some ManyCells)) rs cells
 cells_are false out rs w cells h = refl
 cells_are true None rs w cells h = ap (λ k. laid_out rs ++ replicate (length cells - k) Null) (sym (cells_laid w rs h))
 cells_are true (Some line) rs w cells h = refl
@@ -53,7 +53,7 @@ cells_are true (Some line) rs w cells h = refl
 abbrev lines_reply : List Table → (List Line → List Moment) → Option (List Line) → List Cell → Reply
 lines_reply ts moments o cells = reply (unless (read_refusal moments o (length cells)) (λ e. Refused e) (size_given ts o)) (written (read_refusal moments o (length cells)) (rows_given ts o) cells)
 
-evaluated : (ts : List Table) (moments : List Line → List Moment) (ls : List Line) (before after : List Cell) (r : Result (ℕ × ℕ) Refusal) → All (λ x. length x ≡ width (widths ts) (answer ls)) (plan_rows ts ls)
+evaluated : (ts : List Table) (moments : List Line → List Moment) (ls : List Line) (before after : List Cell) (r : Result (ℕ × ℕ) Refusal) → AllByRecursion (λ x. length x ≡ width (widths ts) (answer ls)) (plan_rows ts ls)
     → WorksOut ts ls (moments ls) before after r → reply (told_size r) after ≡ lines_reply ts moments (Some ls) before
 evaluated ts moments ls before after r h e =
     let few = leb (length before) 65536 in
@@ -63,14 +63,14 @@ evaluated ts moments ls before after r h e =
     ap₂ reply (ap told_size e.answer ∙ answer_is few out (length rs) w) (e.cells ∙ cells_are few out rs w before h)
 
 -- a flat plan's rows over the tables that it was made for are as wide as it says
-plan_wide : (ts : List Table) → Lawful ts → (p : FlatPlan) → plan_widths p ≡ widths ts → All (λ x. length x ≡ width (widths ts) (answer (plan_lines p))) (plan_rows ts (plan_lines p))
+plan_wide : (ts : List Table) → Lawful ts → (p : FlatPlan) → plan_widths p ≡ widths ts → AllByRecursion (λ x. length x ≡ width (widths ts) (answer (plan_lines p))) (plan_rows ts (plan_lines p))
 plan_wide ts g p e =
     let ls = plan_lines p in
     let f : WellFormed (widths ts) ls = subst (λ v. WellFormed v ls) e (plan_formed p) in
     wide_sound ts g [] (answer ls) (sound_at (widths ts) ls (length ls - 1) f (omega (arith, f.some_line)) f.last_rows) []
 
 -- a query's rows too
-query_wide : (ts : List Table) → Lawful ts → (q : Query) → widths_of q ≡ widths ts → All (λ x. length x ≡ width (widths ts) (answer (lines_of q))) (plan_rows ts (lines_of q))
+query_wide : (ts : List Table) → Lawful ts → (q : Query) → widths_of q ≡ widths ts → AllByRecursion (λ x. length x ≡ width (widths ts) (answer (lines_of q))) (plan_rows ts (lines_of q))
 query_wide ts g q e =
     let ls = lines_of q in
     wide_sound ts g [] (answer ls) (subst (λ v. Sound v [] (answer ls)) e (sound_answer ls (widths_of q) q.accepted)) []

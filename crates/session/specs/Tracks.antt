@@ -1,6 +1,6 @@
 -- How the parts of a movements layer stand to the model's tables: what every call keeps.
 use Rattle.std.specs.Prelude.{◌≡◌, ℕ, suc, ◌+◌, ◌≤◌, List, [], ◌∷◌, ◌++◌, map, length}
-use Rattle.std.specs.List.{AllByRecursion as All}
+use Rattle.std.specs.List.{AllByRecursion}
 use Rattle.cells.specs.Cells.{Row}
 use Rattle.stock.specs.Tables.{Table, rows_at}
 use Rattle.movements.specs.Moves.{remaining, added_rows, added_count}
@@ -27,7 +27,7 @@ pub record TableTracks (s : ℕ) (x : Table) (ms : List Added) (hs : List Hidden
   pub width : t.width ≡ x.width
   pub split : t.entries ≡ old ++ map added (added_rows s x.width ms)
   pub rows : map row_of old ≡ x.rows
-  pub olds : All OfStock old
+  pub olds : AllByRecursion OfStock old
   pub shows : shown_rows old ≡ remaining s hs x.rows
 
 -- the tables from number s on

@@ -4,6 +4,7 @@ use cells::cell::Cell;
 use lines::line::Line;
 use session::session::Session;
 use shelf::shelf::Shelf;
+use std::test::Fail;
 
 const ONE: Cell = Cell::Number(1);
 

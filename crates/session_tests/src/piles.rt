@@ -5,6 +5,7 @@ use lines::line::Line;
 use movements::movements::Movements;
 use session::session::Session;
 use shelf::shelf::Shelf;
+use std::test::Fail;
 use stock::pair::Pair;
 use stock::ruler::Ruler;
 

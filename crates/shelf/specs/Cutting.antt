@@ -1,7 +1,7 @@
 -- Laws of cells cut into tables.
 use Rattle.std.specs.Prelude.{◌≡◌, ℕ, zero, suc, ◌+◌, ◌-◌, ◌*◌, ◌<◌, ◌≤◌, Bool, true, false, cond, ◌&&◌, List, [], ◌∷◌, ◌++◌, length, get_or, take, drop, is_some, Some, None, Option, nat_le, nat_lt, slice_index_or, refl}
 use Rattle.std.proofs.Common.{sym, ap, subst, ◌∙◌, ⊎_elim, suc-mul, zero-mul, mul-le-mul_right, arith, length-drop}
-use Rattle.std.specs.List.{AllByRecursion as All}
+use Rattle.std.specs.List.{AllByRecursion}
 use Rattle.std.proofs.lemmas.List.{length-take-le, take_more, drop-drop, get_or_past, get_or-take, get_or-drop}
 use Rattle.std.proofs.lemmas.Bool.{cases_Bool, cases_lt, ltb-true, leb-true, and_parts, and_from, cond-true, cond-false}
 use Rattle.stock.specs.Tables.{Table, Lawful, LawfulTable, LawfulRow, no_table, width_of, rows_of, cell_of, every}
@@ -41,7 +41,7 @@ every_split test (suc m) n (suc k) (x ∷ xs) e h =
     let r = every_split test m n k xs (omega arith) p.1 in
     (and_from (test x) (every test (take m xs)) p.0 r.0, r.1)
 
-rows_lawful : (w r : ℕ) (cs : List Cell) → r * w ≤ length cs → every stored (take (r * w) cs) ≡ true → All (LawfulRow w) (rows_cut w r cs)
+rows_lawful : (w r : ℕ) (cs : List Cell) → r * w ≤ length cs → every stored (take (r * w) cs) ≡ true → AllByRecursion (LawfulRow w) (rows_cut w r cs)
 rows_lawful w zero cs l e = tt
 rows_lawful w (suc r) cs l e =
     let k = suc-mul r w in
@@ -75,7 +75,7 @@ fault_parts i p ps cs e =
     (λ n. let k = cond-false (nat_lt i 16) (cond (fits p cs) rest (Some i)) (Some 16) n in let bad : ◌≡◌ {A = ℕ} 0 1 = cc in absurd (omega arith))
     (cases_Bool (nat_lt i 16))
 
-lawful_cut : (i : ℕ) (ps : List (ℕ × ℕ)) (cs : List Cell) → fault_from i ps cs ≡ None → All LawfulTable (cut ps cs)
+lawful_cut : (i : ℕ) (ps : List (ℕ × ℕ)) (cs : List Cell) → fault_from i ps cs ≡ None → AllByRecursion LawfulTable (cut ps cs)
 lawful_cut i [] cs e = tt
 lawful_cut i (p ∷ ps) cs e = let f = fault_parts i p ps cs e in (table_lawful p cs f.1, lawful_cut (suc i) ps (drop (p.1 * p.0) cs) f.2)
 

@@ -1,7 +1,7 @@
 -- Laws of what the stocks mean.
 use Rattle.std.specs.Prelude.{◌≡◌, ℕ, zero, suc, ◌+◌, ◌-◌, ◌<◌, ◌≤◌, min, true, List, [], ◌∷◌, ◌++◌, map, length, get_or, pos, ◌≢◌, nat_lt, slice_index, slice_index_or, refl}
 use Rattle.std.proofs.Common.{sym, ap, subst, ◌∙◌, inl, inr, ⊎_elim, arith, length-take, length-append}
-use Rattle.std.specs.List.{range_with_len, AllByRecursion as All}
+use Rattle.std.specs.List.{range_with_len, AllByRecursion}
 use Rattle.std.proofs.lemmas.Bool.{cases_lt, cases_eq, and_from, lt-ltb}
 use Rattle.std.proofs.lemmas.List.FromFn.{length-map-range_with_len, get_or-map-range_with_len}
 use Rattle.std.proofs.ByRecursion.{All-from_get_or, All-get_or, All-append, All-take}
@@ -75,7 +75,7 @@ few_rows ts t g = ⊎_elim (λ l. (lawful_at ts t g l).few) (λ k. rw (get_or_pa
 pub small_width : (ts : List Table) (t : ℕ) → Lawful ts → width_of ts t ≤ 8
 small_width ts t g = ⊎_elim (λ l. (lawful_at ts t g l).most) (λ k. rw (get_or_past ts t no_table k) (omega arith)) (cases_lt t (length ts))
 
-pub lawful_rows : (ts : List Table) (t : ℕ) → Lawful ts → All (LawfulRow (width_of ts t)) (rows_at ts t)
+pub lawful_rows : (ts : List Table) (t : ℕ) → Lawful ts → AllByRecursion (LawfulRow (width_of ts t)) (rows_at ts t)
 lawful_rows ts t g = ⊎_elim (λ l. (lawful_at ts t g l).each) (λ k. rw (get_or_past ts t no_table k) tt) (cases_lt t (length ts))
 
 pub row_long : (ts : List Table) (t p : ℕ) → Lawful ts → p < rows_of ts t → length (slice_index_or (rows_at ts t) p []) ≡ width_of ts t

@@ -1,6 +1,6 @@
 -- What a stock means: a list of tables.
 use Rattle.std.specs.Prelude.{◌≡◌, ℕ, ◌≤◌, Bool, true, ◌&&◌, List, [], ◌∷◌, ◌++◌, map, length, get_or, take, pos, slice_index_or}
-use Rattle.std.specs.List.{range_with_len, AllByRecursion as All}
+use Rattle.std.specs.List.{range_with_len, AllByRecursion}
 use Rattle.cells.specs.Cells.{Row, stored}
 use Rattle.cells.specs.declared.cell.Cell.{Cell}
 use Rattle.cells.specs.declared.cell.Cell.TheVariants.{Null, Number}
@@ -22,12 +22,12 @@ pub record LawfulTable (t : Table) : Type 0 where
   pub least : 1 ≤ t.width
   pub most : t.width ≤ 8
   pub few : length t.rows ≤ 65535
-  pub each : All (LawfulRow t.width) t.rows
+  pub each : AllByRecursion (LawfulRow t.width) t.rows
 
 -- what every stock's tables keep to
 pub record Lawful (ts : List Table) : Type 0 where
   pub few : length ts ≤ 16
-  pub each : All LawfulTable ts
+  pub each : AllByRecursion LawfulTable ts
 
 -- what is found outside the list
 abbrev pub no_table : Table

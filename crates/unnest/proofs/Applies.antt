@@ -1,7 +1,7 @@
 -- The six Applies, lifted.
 use Rattle.std.proofs.Common.{◌≡◌, ℕ, zero, suc, ◌+◌, ◌-◌, ◌*◌, ◌<◌, ◌≤◌, Bool, true, false, cond, not, ◌&&◌, ◌||◌, List, [], ◌∷◌, ◌++◌, map, length, get_or, take, drop, replicate, ℤ, pos, filter, sym, refl, ap, ◌∙◌, subst, ap₂, add-zero, zero-add, arith}
 use native.Mathlib.Nat.{sub_self}
-use Rattle.std.specs.List.{flat_map, AllByRecursion as All}
+use Rattle.std.specs.List.{flat_map, AllByRecursion}
 use Rattle.std.proofs.lemmas.List.{append_assoc, drop_at, get_or_append_left, get_or-append_right}
 use Rattle.std.proofs.ByRecursion.{all_kept_by}
 use Rattle.cells.specs.Cells.{Row, same_row, as_cell, compare_cells}
@@ -21,13 +21,13 @@ use Rattle.lines.proofs.Widths.{Wide, all_distinct, wide_distinct}
 
 -- each row of a list stands once in its distinct rows
 
-here : (ys xs : List Row) → ((x : Row) → 1 ≤ count x xs → 1 ≤ count x ys) → All (λ x. count x (distinct_rows ys) ≡ 1) xs
+here : (ys xs : List Row) → ((x : Row) → 1 ≤ count x xs → 1 ≤ count x ys) → AllByRecursion (λ x. count x (distinct_rows ys) ≡ 1) xs
 here ys [] h = tt
 here ys (x ∷ xs) h =
     let a : positive (count x ys) ≡ true = positive_from (count x ys) (h x (omega (arith, count_here x xs))) in
     (count_distinct x ys ∙ rw a, here ys xs (λ z k. h z (omega arith)))
 
-pub each_once : (ys : List Row) → All (λ x. count x (distinct_rows ys) ≡ 1) ys
+pub each_once : (ys : List Row) → AllByRecursion (λ x. count x (distinct_rows ys) ≡ 1) ys
 each_once ys = here ys ys (λ x k. k)
 
 pub dom_distinct : (w : ℕ) (ys : List Row) → Wide w ys → Dom w (distinct_rows ys)

@@ -1,7 +1,7 @@
 -- Group and Total, lifted.
 use Rattle.std.proofs.Common.{◌≡◌, ℕ, zero, suc, ◌+◌, ◌-◌, ◌*◌, ◌<◌, ◌≤◌, Bool, true, false, cond, not, ◌&&◌, ◌||◌, List, [], ◌∷◌, ◌++◌, map, length, take, drop, filter, sym, refl, ap, ◌∙◌, subst, ap₂, add-zero, suc-add, zero-add, arith}
 use mathlib.Core.Bool.{and-true}
-use Rattle.std.specs.List.{flat_map, AllByRecursion as All}
+use Rattle.std.specs.List.{flat_map, AllByRecursion}
 use Rattle.std.proofs.lemmas.List.{append_assoc}
 use Rattle.cells.specs.Cells.{Row, same_row}
 use Rattle.lines.specs.Ops.{count, some_of, distinct_rows, alike, anti_rows, folded, group_rows, none_of}

@@ -1,6 +1,6 @@
 -- The agreement and the lifted law, on lines.
 use Rattle.std.proofs.Common.{◌≡◌, ℕ, ◌+◌, ◌-◌, ◌<◌, ◌≤◌, Bool, true, false, cond, List, [], ◌∷◌, ◌++◌, length, sym, refl, ap, ◌∙◌, subst, zero-add, arith}
-use Rattle.std.specs.List.{AllByRecursion as All}
+use Rattle.std.specs.List.{AllByRecursion}
 use Rattle.std.proofs.lemmas.List.{length-append}
 use Rattle.cells.specs.Cells.{Row, same_row}
 use Rattle.lines.specs.declared.line.Line.{Line}
@@ -29,7 +29,7 @@ agreed ws query s ts lawful e r =
     ∙ agree_trees ts (lawful_fits ts lawful) (answer query) (sound_good (widths ts) [] (answer query) s') r
 
 -- no row twice: each row of the list once
-once_each : (ds xs : List Row) → ((d : Row) → count d ds ≤ 1) → ((d : Row) → count d xs ≤ count d ds) → All (λ d. count d ds ≡ 1) xs
+once_each : (ds xs : List Row) → ((d : Row) → count d ds ≤ 1) → ((d : Row) → count d xs ≤ count d ds) → AllByRecursion (λ d. count d ds ≡ 1) xs
 once_each ds [] o h = tt
 once_each ds (x ∷ xs) o h =
     (omega (arith, o x, h x, count_here x xs), once_each ds xs o (λ d. omega (arith, h d)))

@@ -1,6 +1,6 @@
 -- A flat line's rows against the rows of a line in each context of a domain.
 use Rattle.std.proofs.Common.{◌≡◌, ℕ, zero, suc, ◌+◌, ◌-◌, ◌*◌, ◌<◌, ◌≤◌, Bool, true, false, cond, not, ◌&&◌, ◌||◌, ◌⊎◌, List, [], ◌∷◌, ◌++◌, map, length, take, drop, filter, sym, refl, ap, ◌∙◌, ap₂, inl, inr, add-zero, one-mul, zero-add, zero-mul, arith}
-use Rattle.std.specs.List.{flat_map, AllByRecursion as All}
+use Rattle.std.specs.List.{flat_map, AllByRecursion}
 use Rattle.std.proofs.lemmas.List.{append_assoc, take_at, drop_at, length-append}
 use Rattle.cells.specs.Cells.{Row, same_row, same_cell}
 use Rattle.lines.specs.Ops.{count, some_of, distinct_rows, diff_rows}
@@ -10,14 +10,14 @@ use Rattle.lines.proofs.Sameness.{same_eq, same_refl, same_split}
 
 -- the domain: each row once, all of c columns
 pub record Dom (c : ℕ) (D : List Row) : Type 0 where
-  pub long : All (λ d. length d ≡ c) D
-  pub once : All (λ d. count d D ≡ 1) D
+  pub long : AllByRecursion (λ d. length d ≡ c) D
+  pub once : AllByRecursion (λ d. count d D ≡ 1) D
 
 -- F has, for each d of D, d with each row of E d
 abbrev pub Lifted : List Row → List Row → (Row → List Row) → Type 0
 Lifted D F E = (g : Row → ℕ) → W g F ≡ W (λ d. W (λ r. g (d ++ r)) (E d)) D
 
-pub both : {P Q R : Row → Type 0} (xs : List Row) → ((x : Row) → P x → Q x → R x) → All P xs → All Q xs → All R xs
+pub both : {P Q R : Row → Type 0} (xs : List Row) → ((x : Row) → P x → Q x → R x) → AllByRecursion P xs → AllByRecursion Q xs → AllByRecursion R xs
 both [] h a b = tt
 both (x ∷ xs) h a b = (h x a.0 b.0, both xs h a.1 b.1)
 
@@ -40,7 +40,7 @@ W_once d φ xs h = W_times d φ xs ∙ rw h (omega arith)
 
 module _ (c : ℕ) (D : List Row) (m : Dom c D) (F : List Row) (E : Row → List Row) (l : Lifted D F E) where
   -- a sum over the flat rows is a sum over the contexts
-  pub core : (φ : Row → ℕ) (ψ : Row → Row → ℕ) → ((d : Row) → length d ≡ c → count d D ≡ 1 → All (λ r. φ (d ++ r) ≡ ψ d r) (E d))
+  pub core : (φ : Row → ℕ) (ψ : Row → Row → ℕ) → ((d : Row) → length d ≡ c → count d D ≡ 1 → AllByRecursion (λ r. φ (d ++ r) ≡ ψ d r) (E d))
       → W φ F ≡ W (λ d. W (ψ d) (E d)) D
   core φ ψ h = l φ ∙ in_dom c D m (λ d. W (λ r. φ (d ++ r)) (E d)) (λ d. W (ψ d) (E d)) (λ d a b. W_all (λ r. φ (d ++ r)) (ψ d) (E d) (h d a b))
 
@@ -78,7 +78,7 @@ same_cut (y ∷ x) (e ∷ d) r =
 pub few : (c : ℕ) (D : List Row) → Dom c D → (x : Row) → (count x D ≡ 0) ⊎ (count x D ≡ 1)
 few c D m x = go (positive (count x D)) refl
   where
-    at : (ys : List Row) → All (λ d. count d D ≡ 1) ys → some_of (same_row x) ys ≡ true → count x D ≡ 1
+    at : (ys : List Row) → AllByRecursion (λ d. count d D ≡ 1) ys → some_of (same_row x) ys ≡ true → count x D ≡ 1
     at [] a h = cc
     at (y ∷ ys) a h = on (same_row x y) refl h (at ys a.1)
       where

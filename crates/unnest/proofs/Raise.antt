@@ -1,7 +1,7 @@
 -- Each kind of line, lifted.
 use Rattle.std.proofs.Common.{◌≡◌, ℕ, zero, suc, ◌+◌, ◌-◌, ◌*◌, ◌<◌, ◌≤◌, Bool, true, false, cond, not, ◌&&◌, ◌||◌, List, [], ◌∷◌, ◌++◌, map, length, take, drop, filter, sym, refl, ap, ◌∙◌, ap₂, add-zero, suc-add, zero-add, arith}
 use mathlib.Core.Bool.{and-true}
-use Rattle.std.specs.List.{flat_map, AllByRecursion as All}
+use Rattle.std.specs.List.{flat_map, AllByRecursion}
 use Rattle.std.proofs.lemmas.List.{append_assoc, take_at, drop_at, length-append, take_all}
 use Rattle.std.proofs.ByRecursion.{All-weaker}
 use Rattle.cells.specs.Cells.{Row, same_row}
@@ -31,7 +31,7 @@ some_any [] = refl
 some_any (x ∷ xs) = refl
 
 module _ (c : ℕ) (D : List Row) (m : Dom c D) (F : List Row) (E : Row → List Row) (l : Lifted D F E) where
-  pub lift_map : (h : Row → Row) (k : Row → Row → Row) → ((d : Row) → length d ≡ c → count d D ≡ 1 → All (λ r. h (d ++ r) ≡ d ++ k d r) (E d))
+  pub lift_map : (h : Row → Row) (k : Row → Row → Row) → ((d : Row) → length d ≡ c → count d D ≡ 1 → AllByRecursion (λ r. h (d ++ r) ≡ d ++ k d r) (E d))
       → Lifted D (map h F) (λ d. map (k d) (E d))
   lift_map h k e g =
       W_map g h F

@@ -9,7 +9,7 @@ use Rattle.lines.specs.Marks.{Marks, Sound}
 use Rattle.stock.specs.Tables.{Table, Lawful, widths}
 use Rattle.unnest.specs.Emit.{emit, inside}
 use Rattle.std.specs.Prelude.{◌≡◌, ℕ, ◌<◌, ◌≤◌, List, [], ◌++◌, map, length}
-use Rattle.std.specs.List.{flat_map, AllByRecursion as All}
+use Rattle.std.specs.List.{flat_map, AllByRecursion}
 
 -- over every stock with tables of the widths ws, the flat lines give each row exactly as often as the query's lines
 abbrev pub Agree : List ℕ → List Line → List Line → Type 0
@@ -17,7 +17,7 @@ Agree ws query flat = (ts : List Table) → Lawful ts → widths ts ≡ ws → (
 
 -- rows that can be a domain: all of c columns, and none of them twice
 pub record DomainRows (c : ℕ) (ds : List Row) : Type 0 where
-  pub long : All (λ d. length d ≡ c) ds
+  pub long : AllByRecursion (λ d. length d ≡ c) ds
   pub once : (d : Row) → count d ds ≤ 1
 
 -- each row of a domain followed by each of the rows that it has

@@ -2,4 +2,4 @@ use Rattle.std.proofs.Common.{◌≡◌, length}
 use Rattle.query_tests.proofs.reads.not_33_lines.Given as goal
 
 abbrev pub invariant-loop-i : goal.invariant-loop-i
-invariant-loop-i l = length l.lines ≡ 33
+invariant-loop-i g l = length l.lines ≡ 33
