@@ -3,23 +3,18 @@ use Rattle.std.proofs.Common.{◌≡◌, ℕ, zero, suc, ◌+◌, ◌-◌, ◌*�
 use Rattle.std.specs.List.{AllByRecursion}
 use Rattle.std.proofs.lemmas.Int.{ints}
 use Rattle.std.proofs.lemmas.Bool.{ltb-true, cond-true, cond-false}
-use Rattle.std.proofs.lemmas.List.{append-nil, map-append}
-use Rattle.std.proofs.lemmas.List.Elements.{filter-append}
 use Rattle.std.proofs.ByRecursion.{All-get_or}
 use Rattle.cells.specs.Cells.{Row, same_row, stored}
 use Rattle.cells.specs.declared.cell.Cell.{Cell}
 use Rattle.cells.specs.declared.cell.Cell.TheVariants.{Null, Number}
 use Rattle.lines.specs.Ops.{step_of, folded}
-use Rattle.lines.proofs.Weights.{W_append}
-use Rattle.lines.proofs.Folds.{folded_bag}
 use Rattle.lines.specs.declared.line.Aggregate.{Aggregate}
 use Rattle.lines.specs.declared.line.Aggregate.TheVariants.{Rows, Filled, Sum, Least, Greatest}
 use Rattle.operators.specs.Places.{row_at, rows_from, rows_in, region_end, next_row}
 use Rattle.operators.specs.Folds.{addable, Addable, adds, best_of, cell_from, result_of, Within, folded_alike}
 use Rattle.operators.specs.declared.folds.Running.{Running}
 use Rattle.operators.specs.declared.region.Region.{Region}
-use Rattle.operators.proofs.Stack.{row_front, rows_none, rows_more, rows_length, rows_get_or}
-use Rattle.operators.proofs.Looking.{keys_in, other_row}
+use Rattle.operators.proofs.Stack.{row_front, rows_none, rows_first, rows_length, rows_get_or}
 
 zero_plus : (z : ℤ) → pos 0 +ℤ z ≡ z
 zero_plus z = omega (arith, ints)
@@ -75,21 +70,14 @@ step_is Greatest c r s b e g = ap cell_from g ∙ greatest c r.best
 pub begins_is : (xs : List Cell) (at n row : ℕ) (front : Region) (t : Bool) → row ≡ region_end front → n ≤ front.width → t ≡ same_row (row_at xs at n) (row_at xs row n) → same_row (row_at xs at n) (take n (next_row xs front)) ≡ t
 begins_is xs at n row front t e h k = ap (same_row (row_at xs at n)) (row_front xs (region_end front) n front.width h ∙ ap (λ (x : ℕ). row_at xs x n) (sym e)) ∙ sym k
 
--- over one row more: the order is no matter
-folded_push : (f : Aggregate) (k : ℕ) (xs : List Row) (x : Row) → folded f k (xs ++ x ∷ []) ≡ step_of f (get_or x k Null) (folded f k xs)
-folded_push f k xs x = folded_bag f k (xs ++ x ∷ []) (x ∷ xs) (λ g. W_append g xs (x ∷ []) ∙ omega arith)
-
-fold_push : (n : ℕ) (f : Aggregate) (k : ℕ) (d key x : Row) (xs : List Row) → folded_alike n f k d key (xs ++ x ∷ []) ≡ cond (same_row key (take n x)) (step_of f (get_or (d ++ x) k Null) (folded_alike n f k d key xs)) (folded_alike n f k d key xs)
-fold_push n f k d key x xs =
-    let p : Row → Bool = λ r. same_row key (take n r) in
-    let kept = filter p xs in
-    ap (λ (l : List Row). folded f k (map (λ r. d ++ r) l)) (filter-append p xs (x ∷ []))
-    ∙ (elim (same_row key (take n x)) as (λ t. folded f k (map (λ r. d ++ r) (kept ++ cond t (x ∷ []) [])) ≡ cond t (step_of f (get_or (d ++ x) k Null) (folded f k (map (λ r. d ++ r) kept))) (folded f k (map (λ r. d ++ r) kept)))
-    [ true ↦ ap (folded f k) (map-append (λ r. d ++ r) kept (x ∷ [])) ∙ folded_push f k (map (λ r. d ++ r) kept) (d ++ x) | false ↦ ap (λ (l : List Row). folded f k (map (λ r. d ++ r) l)) (append-nil kept) ])
+-- over one row more, at the front
+fold_first : (n : ℕ) (f : Aggregate) (k : ℕ) (d key x : Row) (xs : List Row) → folded_alike n f k d key (x ∷ xs) ≡ cond (same_row key (take n x)) (step_of f (get_or (d ++ x) k Null) (folded_alike n f k d key xs)) (folded_alike n f k d key xs)
+fold_first n f k d key x xs = elim (same_row key (take n x)) as (λ t. folded f k (map (λ r. d ++ r) (cond t (x ∷ filter (λ r. same_row key (take n r)) xs) (filter (λ r. same_row key (take n r)) xs)))
+    ≡ cond t (step_of f (get_or (d ++ x) k Null) (folded_alike n f k d key xs)) (folded_alike n f k d key xs)) [ true ↦ refl | false ↦ refl ]
 
 -- none yet
-pub fold_none : (n : ℕ) (f : Aggregate) (k : ℕ) (d key : Row) (xs : List Cell) (a w : ℕ) → result_of f (record { sum = pos 0; best = None }) ≡ folded_alike n f k d key (rows_from xs a 0 w)
-fold_none n f k d key xs a w = none f ∙ sym (ap (folded_alike n f k d key) (rows_none xs a w))
+pub fold_none : (n : ℕ) (f : Aggregate) (k : ℕ) (d key : Row) (xs : List Cell) (a m w : ℕ) → m ≡ 0 → result_of f (record { sum = pos 0; best = None }) ≡ folded_alike n f k d key (rows_from xs a m w)
+fold_none n f k d key xs a m w e = none f ∙ sym (ap (folded_alike n f k d key) (ap (λ (i : ℕ). rows_from xs a i w) e ∙ rows_none xs a w))
   where
     none : (f : Aggregate) → result_of f (record { sum = pos 0; best = None }) ≡ folded f k []
     none Rows = refl
@@ -98,24 +86,25 @@ fold_none n f k d key xs a w = none f ∙ sym (ap (folded_alike n f k d key) (ro
     none Least = refl
     none Greatest = refl
 
-pub fold_more : (n : ℕ) (f : Aggregate) (k : ℕ) (d key : Row) (xs : List Cell) (start j w : ℕ) (before after : Cell) → before ≡ folded_alike n f k d key (rows_from xs start j w)
-    → after ≡ cond (same_row key (take n (row_at xs (start + j * w) w))) (step_of f (get_or (d ++ row_at xs (start + j * w) w) k Null) before) before
-    → after ≡ folded_alike n f k d key (rows_from xs start (j + 1) w)
-fold_more n f k d key xs start j w before after b a =
-    let x = row_at xs (start + j * w) w in
-    a ∙ (ap (λ (c : Cell). cond (same_row key (take n x)) (step_of f (get_or (d ++ x) k Null) c) c) b ∙ (sym (fold_push n f k d key x (rows_from xs start j w)) ∙ ap (folded_alike n f k d key) (sym (rows_more xs start j w))))
+pub fold_more : (n : ℕ) (f : Aggregate) (k : ℕ) (d key : Row) (xs : List Cell) (start j rows w : ℕ) (before after : Cell) → 0 < j → j ≤ rows
+    → before ≡ folded_alike n f k d key (rows_from xs (start + j * w) (rows - j) w)
+    → after ≡ cond (same_row key (take n (row_at xs (start + (j - 1) * w) w))) (step_of f (get_or (d ++ row_at xs (start + (j - 1) * w) w) k Null) before) before
+    → after ≡ folded_alike n f k d key (rows_from xs (start + (j - 1) * w) (rows - (j - 1)) w)
+fold_more n f k d key xs start j rows w before after some le b a =
+    let i : j ≡ (j - 1) + 1 = omega arith in
+    let m : rows - (j - 1) ≡ (rows - j) + 1 = omega arith in
+    let p : (start + (j - 1) * w) + w ≡ start + j * w = omega (arith, add-mul (j - 1) 1 w, one-mul w, ap (λ (x : ℕ). x * w) i) in
+    let x = row_at xs (start + (j - 1) * w) w in
+    let e : rows_from xs (start + (j - 1) * w) (rows - (j - 1)) w ≡ x ∷ rows_from xs (start + j * w) (rows - j) w = ap (λ (y : ℕ). rows_from xs (start + (j - 1) * w) y w) m ∙ (rows_first xs (start + (j - 1) * w) (rows - j) w ∙ ap (λ (y : ℕ). x ∷ rows_from xs y (rows - j) w) p) in
+    a ∙ (ap (λ (c : Cell). cond (same_row key (take n x)) (step_of f (get_or (d ++ x) k Null) c) c) b ∙ (sym (fold_first n f k d key x (rows_from xs (start + j * w) (rows - j) w)) ∙ ap (folded_alike n f k d key) (sym e)))
 
--- what the running values have come to over the first j rows that begin with the key
-abbrev pub Folded : ℕ → Aggregate → ℕ → Row → Row → List Cell → Region → Running → ℕ → Type 0
-Folded n f k d key xs r running j = (result_of f running ≡ folded_alike n f k d key (rows_from xs r.start j r.width)) × Within j running.sum
-
--- a row that begins otherwise is no matter
-pub folded_more : (n : ℕ) (f : Aggregate) (k : ℕ) (d : Row) (xs : List Cell) (at : ℕ) (r : Region) (running : Running) → n ≤ r.width → (j : ℕ) → j < r.rows → (keys_in xs r n j ≡ row_at xs at n → ⊥)
-    → Folded n f k d (row_at xs at n) xs r running j → Folded n f k d (row_at xs at n) xs r running (j + 1)
-folded_more n f k d xs at r running le j lt h p =
-    let key = row_at xs at n in
-    let e : same_row key (take n (row_at xs (r.start + j * r.width) r.width)) ≡ false = ap (same_row key) (row_front xs (r.start + j * r.width) n r.width le) ∙ other_row key (keys_in xs r n j) h in
-    (fold_more n f k d key xs r.start j r.width (result_of f running) (result_of f running) p.0 (sym (cond-false _ _ _ e)), within_wide j (j + 1) running.sum (omega arith) p.1)
+pub fold_all : (n : ℕ) (f : Aggregate) (k : ℕ) (d key : Row) (xs : List Cell) (r : Region) (j : ℕ) → j ≤ 0 → folded_alike n f k d key (rows_from xs (r.start + j * r.width) (r.rows - j) r.width) ≡ folded_alike n f k d key (rows_in xs r)
+fold_all n f k d key xs r j h =
+    let z : j ≡ 0 = omega arith in
+    let a : r.start + 0 * r.width ≡ r.start = omega arith in
+    let b : r.rows - 0 ≡ r.rows = omega arith in
+    ap (λ (i : ℕ). folded_alike n f k d key (rows_from xs (r.start + i * r.width) (r.rows - i) r.width)) z
+    ∙ ap₂ (λ (i m : ℕ). folded_alike n f k d key (rows_from xs i m r.width)) a b
 
 pub addable_at : (f : Aggregate) (k : ℕ) (d : Row) (xs : List Cell) (r : Region) (j : ℕ) → j < r.rows → Addable f k d (rows_in xs r) → addable f (get_or (d ++ row_at xs (r.start + j * r.width) r.width) k Null) ≡ true
 addable_at f k d xs r j h a =

@@ -5,7 +5,6 @@ pub mod Reshaping
 pub mod Sames
 pub mod Filtering
 pub mod Meaning
-pub mod Looking
 pub mod Pairing
 pub mod Folding
 pub mod Grouping

@@ -5,18 +5,13 @@ ghost use Rattle.cells.specs.declared.cell.Cell.TheVariants.{Null};
 ghost use Rattle.lines.specs.Ops.{step_of, folded, group_rows};
 ghost use Rattle.operators.specs.Places.{row_at, rows_in, next_row, Stands, Next, Room};
 ghost use Rattle.operators.specs.Laid.{Lays};
-ghost use Rattle.operators.specs.Index.{Indexes};
-ghost use Rattle.operators.specs.Sizes.{Lent};
 ghost use Rattle.operators.specs.Folds.{addable, Addable, adds, best_of, result_of, Within, folded_alike, grouped};
 
 use crate::conditions::long_cell;
 use crate::filters::has_alike;
 use crate::moves::{copy, put, same_cells};
 use crate::region::Region;
-use crate::rooms::{Task, lay_in};
-use crate::sizes::{Size, size_for};
 use cells::cell::Cell;
-use index::chains::{Index, build};
 use lines::line::Aggregate;
 
 // What has been worked out so far: a count or a sum in `sum`, a least or greatest number in `best`, which is None until a filled cell comes.
@@ -115,7 +110,7 @@ fn step_row(
     )
 }
 
-// The aggregate over the rows that begin with the n cells at `at`. An index gives the rows that may.
+// The aggregate over the rows that begin with the n cells at `at`.
 fn fold_alike(
     aggregate: Aggregate,
     column: usize,
@@ -124,26 +119,22 @@ fn fold_alike(
     at: usize,
     n: usize,
     rows: Region,
-    index: Index,
 ) -> Cell
     requires rows { Stands rows (length cells.now) }
     requires few { rows.rows ≤ 65536 }
     requires key { at + n ≤ length cells.now }
     requires keys { n ≤ rows.width }
     requires addable { Addable aggregate column context.now (rows_in cells.now rows) }
-    requires index { Indexes cells.now rows n index.heads.now index.nexts.now }
     ensures { result ≡ folded_alike n aggregate column context.now (row_at cells.now at n) (rows_in cells.now rows) }
 {
     let mut running = Running { sum: 0, best: None };
-    let mut j = index.first(cells, at, n);
-    while j < rows.rows {
+    for j in (0..rows.rows).rev() {
         let front = Region {
             start: rows.start,
             rows: j,
             width: rows.width,
         };
         running = step_row(running, aggregate, column, context, cells, at, n, front);
-        j = index.next(j);
     }
     running.finish(aggregate)
 }
@@ -166,11 +157,7 @@ pub fn total(
     if cells.len() == out {
         return None;
     }
-    let none = Index {
-        heads: &[],
-        nexts: &[],
-    };
-    let cell = fold_alike(aggregate, column, context, cells, out, 0, rows, none);
+    let cell = fold_alike(aggregate, column, context, cells, out, 0, rows);
     put(cells, out, cell);
     Some(1)
 }
@@ -185,7 +172,6 @@ fn group_row(
     aggregate: Aggregate,
     column: usize,
     to: usize,
-    index: Index,
 ) -> Option<usize>
     requires next { Next front to }
     requires rows { Stands rows to }
@@ -193,26 +179,24 @@ fn group_row(
     requires keys { keys ≤ rows.width }
     requires addable { Addable aggregate column context.now (rows_in cells.old rows) }
     requires room { Room cells.old to }
-    requires front_index { Indexes cells.old front keys index.heads.now index.nexts.now }
-    requires index { Indexes cells.old rows keys index.heads.now index.nexts.now }
     ensures { Lays cells.old cells.new to (keys + 1)
         (grouped keys aggregate column context.now (rows_in cells.old rows) (rows_in cells.old front) (next_row cells.old front)) result }
 {
     let at = front.end();
-    if has_alike(cells, at, keys, front, index) {
+    if has_alike(cells, at, keys, front) {
         return Some(0);
     }
     if cells.len() - to < keys + 1 {
         return None;
     }
-    let cell = fold_alike(aggregate, column, context, cells, at, keys, rows, index);
+    let cell = fold_alike(aggregate, column, context, cells, at, keys, rows);
     copy(cells, at, to, keys);
     put(cells, to + keys, cell);
     Some(1)
 }
 
-// Lays a row for each different start of a row.
-fn group_each(
+// For each different start of a row, by first appearance, this and the aggregate over its rows.
+pub fn group(
     context: &[Cell],
     cells: &mut [Cell],
     rows: Region,
@@ -220,13 +204,11 @@ fn group_each(
     aggregate: Aggregate,
     column: usize,
     out: usize,
-    index: Index,
 ) -> Option<usize>
     requires rows { Stands rows out }
     requires keys { keys ≤ rows.width }
     requires addable { Addable aggregate column context.now (rows_in cells.old rows) }
     requires room { Room cells.old out }
-    requires index { Indexes cells.old rows keys index.heads.now index.nexts.now }
     ensures { Lays cells.old cells.new out (keys + 1)
         (group_rows keys aggregate column context.now (rows_in cells.old rows)) result }
 {
@@ -247,69 +229,8 @@ fn group_each(
             aggregate,
             column,
             out + k * w,
-            index,
         )?;
         k += more;
     }
     Some(k)
-}
-
-// The same by an index over the rows, made in lent room.
-pub(crate) fn group_in(
-    context: &[Cell],
-    cells: &mut [Cell],
-    rows: Region,
-    keys: usize,
-    aggregate: Aggregate,
-    column: usize,
-    out: usize,
-    heads: &mut [u32],
-    nexts: &mut [u32],
-) -> Option<usize>
-    requires rows { Stands rows out }
-    requires keys { keys ≤ rows.width }
-    requires addable { Addable aggregate column context.now (rows_in cells.old rows) }
-    requires room { Room cells.old out }
-    requires lent { Lent heads.old nexts.old rows.rows }
-    ensures { Lays cells.old cells.new out (keys + 1)
-        (group_rows keys aggregate column context.now (rows_in cells.old rows)) result }
-{
-    let index = build(cells, rows.start, rows.rows, rows.width, keys, heads, nexts);
-    group_each(context, cells, rows, keys, aggregate, column, out, index)
-}
-
-// For each different start of a row, by first appearance, this and the aggregate over its rows.
-pub fn group(
-    context: &[Cell],
-    cells: &mut [Cell],
-    rows: Region,
-    keys: usize,
-    aggregate: Aggregate,
-    column: usize,
-    out: usize,
-) -> Option<usize>
-    requires rows { Stands rows out }
-    requires keys { keys ≤ rows.width }
-    requires addable { Addable aggregate column context.now (rows_in cells.old rows) }
-    requires room { Room cells.old out }
-    ensures { Lays cells.old cells.new out (keys + 1)
-        (group_rows keys aggregate column context.now (rows_in cells.old rows)) result }
-{
-    let task = Task::Group {
-        keys,
-        aggregate,
-        column,
-    };
-    match size_for(rows.rows, rows.rows) {
-        Size::None => {
-            let none = Index {
-                heads: &[],
-                nexts: &[],
-            };
-            group_each(context, cells, rows, keys, aggregate, column, out, none)
-        }
-        Size::Small => lay_in::<64, 64>(context, cells, rows, task, out),
-        Size::Middle => lay_in::<2048, 2048>(context, cells, rows, task, out),
-        Size::Large => lay_in::<16384, 65536>(context, cells, rows, task, out),
-    }
 }

@@ -8,7 +8,5 @@ pub mod moves;
 pub mod pairs;
 pub mod region;
 pub mod reshapes;
-mod rooms;
-mod sizes;
 pub mod sources;
 pub mod tables;

@@ -1,16 +1,7 @@
-use Rattle.std.proofs.Common.{le-mul_of_pos_right, arith}
+use Rattle.std.proofs.Common.{arith}
 use Rattle.operators.specs.Places.{rows_in}
 use Rattle.operators.proofs.Grouping.{few_rows, stands_in, group_none, group_over, group_laid}
 use Rattle.operators.proofs.folds.group_row.Goals as goal
-
-pub has_alike-requires : goal.has_alike-requires
-has_alike-requires c = record {
-  row = omega (arith, c.requires.next.inside, c.requires.front_keys, c.requires.room.room, c.end-at.ensures);
-  within = omega (arith, c.requires.next.inside, c.requires.room.room);
-  shared = c.requires.front_keys;
-  few = omega (arith, le-mul_of_pos_right c.args.front.rows c.requires.next.wide, c.requires.next.inside, c.requires.room.room, c.requires.room.few);
-  index = c.requires.front_index;
-}
 
 pub returns-then-has_alike : goal.returns-then-has_alike
 returns-then-has_alike c = group_none c.args.keys c.args.aggregate c.args.column c.args.context.now (rows_in c.args.cells.now c.args.rows) c.args.cells.now c.args.front c.end-at.result c.args.to c.end-at.ensures c.requires.front_keys c.requires.room.room c.if-has_alike.ensures
@@ -25,7 +16,6 @@ fold_alike-cell-requires c = record {
   key = omega (arith, c.requires.next.inside, c.requires.front_keys, c.requires.room.room, c.end-at.ensures);
   keys = c.requires.keys;
   addable = c.requires.addable;
-  index = c.requires.index;
 }
 
 pub returns : goal.returns

@@ -2,7 +2,6 @@ use Rattle.std.proofs.Common.{◌≡◌, [], ◌∷◌, ◌∙◌, subst, arith}
 use Rattle.cells.specs.declared.cell.Cell.{Cell}
 use Rattle.operators.specs.Laid.{Put}
 use Rattle.operators.specs.Places.{rows_in}
-use Rattle.index.proofs.Walks.{none_indexed}
 use Rattle.operators.proofs.Stack.{laid_one}
 use Rattle.operators.proofs.Grouping.{few_rows, stands_in, fold_every}
 use Rattle.operators.proofs.folds.total.Goals as goal
@@ -14,7 +13,6 @@ fold_alike-cell-requires c = record {
   key = omega (arith, c.requires.room.room);
   keys = omega arith;
   addable = c.requires.addable;
-  index = none_indexed _ _;
 }
 
 pub returns : goal.returns
