@@ -3,14 +3,14 @@ use crate::parts::sign_word;
 use lines::line::{Line, Side};
 use std::fmt;
 
-pub(crate) fn side<W: fmt::Write>(value: Side, f: &mut fmt::Formatter<W>) -> fmt::Result {
+pub fn side<W: fmt::Write>(value: Side, f: &mut fmt::Formatter<W>) -> fmt::Result {
     match value {
         Side::Column(k) => write!(f, "column {k}"),
         Side::Constant(z) => write!(f, "constant {z}"),
     }
 }
 
-pub(crate) fn condition<W: fmt::Write>(line: Line, f: &mut fmt::Formatter<W>) -> fmt::Result {
+pub fn condition<W: fmt::Write>(line: Line, f: &mut fmt::Formatter<W>) -> fmt::Result {
     match line {
         Line::Compare { sign, left, right } => {
             write!(f, "compare ")?;

@@ -15,7 +15,7 @@ pub(crate) fn sign_of(word: &[u8]) -> Option<Sign> {
     }
 }
 
-pub(crate) fn sign_word(sign: Sign) -> &'static str {
+pub fn sign_word(sign: Sign) -> &'static str {
     match sign {
         Sign::Equal => "=",
         Sign::Unequal => "<>",

@@ -5,7 +5,7 @@ use lines::line::Line;
 use std::fmt;
 
 // Lines that read no rows or one operand's.
-pub(crate) fn single<W: fmt::Write>(line: Line, f: &mut fmt::Formatter<W>) -> fmt::Result {
+pub fn single<W: fmt::Write>(line: Line, f: &mut fmt::Formatter<W>) -> fmt::Result {
     match line {
         Line::Unit => write!(f, "unit"),
         Line::Table { table } => write!(f, "table {table}"),
@@ -47,7 +47,7 @@ fn folded<W: fmt::Write>(line: Line, f: &mut fmt::Formatter<W>) -> fmt::Result {
 }
 
 // Lines that read the rows of two operands.
-pub(crate) fn twofold<W: fmt::Write>(line: Line, f: &mut fmt::Formatter<W>) -> fmt::Result {
+pub fn twofold<W: fmt::Write>(line: Line, f: &mut fmt::Formatter<W>) -> fmt::Result {
     match line {
         Line::Match {
             shared,
@@ -71,7 +71,7 @@ pub(crate) fn twofold<W: fmt::Write>(line: Line, f: &mut fmt::Formatter<W>) -> f
 }
 
 // The six forms of Apply.
-pub(crate) fn apply<W: fmt::Write>(line: Line, f: &mut fmt::Formatter<W>) -> fmt::Result {
+pub fn apply<W: fmt::Write>(line: Line, f: &mut fmt::Formatter<W>) -> fmt::Result {
     match line {
         Line::ApplyCross { left, right } => write!(f, "apply cross {left} {right}"),
         Line::ApplyOuter { left, right } => write!(f, "apply outer {left} {right}"),
