@@ -1,12 +1,12 @@
 -- What one movement more changes of the tables that a layer shows.
-use Rattle.std.proofs.Common.{◌≡◌, ℕ, zero, suc, ◌+◌, ◌-◌, ◌<◌, ◌≤◌, true, false, cond, eqb, List, [], ◌∷◌, ◌++◌, length, get_or, take, drop, sym, refl, ap, ◌∙◌, subst, ⊎_elim, add-one, arith, length-append}
+use Rattle.std.proofs.Common.{◌≡◌, ℕ, zero, suc, ◌+◌, ◌-◌, ◌<◌, ◌≤◌, List, [], ◌∷◌, ◌++◌, length, get_or, take, drop, sym, refl, ap, ◌∙◌, subst, ⊎_elim, add-one, arith, length-append}
 use Rattle.std.specs.List.{remove, AllByRecursion}
 use Rattle.std.proofs.lemmas.List.Edits.{length-remove}
-use Rattle.std.proofs.lemmas.List.{append-nil, append_assoc, take_all, take_more, drop_more, length-take, take-append-le, drop-append-le}
+use Rattle.std.proofs.lemmas.List.{append-nil, append_assoc, take_all, length-take}
 use Rattle.std.proofs.lemmas.Bool.{ne_eqb, eq-eqb, cases_eq}
 use Rattle.cells.specs.Cells.{Row}
 use Rattle.cells.specs.declared.cell.Cell.TheVariants.{Null}
-use Rattle.stock.specs.Tables.{Table, Lawful, LawfulTable, no_table, width_of, rows_at, rows_of}
+use Rattle.stock.specs.Tables.{Table, Lawful, LawfulTable, no_table, width_of, rows_at}
 use Rattle.movements.specs.Moves.{take_out, remaining, added_rows, added_count, Nth, one_moved, moved_from, moved, change_rows, with_row, without_row}
 use Rattle.movements.specs.Moving.{cons_both, table_of, remaining_append, added_rows_append, added_rows_one, added_rows_other, added_rows_removed, split_at, length_added_rows, added_count_append}
 use Rattle.movements.specs.declared.moved.Added.{Added}

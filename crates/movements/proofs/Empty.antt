@@ -1,5 +1,5 @@
 -- A layer with no movements.
-use Rattle.std.proofs.Common.{◌≡◌, ℕ, ◌+◌, ◌≤◌, List, [], length, take, sym, ap, ◌∙◌, arith}
+use Rattle.std.proofs.Common.{◌≡◌, ℕ, ◌+◌, ◌≤◌, List, [], length, take, ap, ◌∙◌, arith}
 use Rattle.stock.specs.Tables.{Table, Lawful, rows_at}
 use Rattle.stock.specs.Tabled.{few_rows}
 use Rattle.movements.specs.Moves.{moved, remaining, added_count}

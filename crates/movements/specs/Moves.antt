@@ -1,11 +1,10 @@
 -- What a layer of movements shows over a list of tables.
-use Rattle.std.specs.Prelude.{◌≡◌, ℕ, zero, suc, ◌+◌, ◌-◌, ◌<◌, ◌≤◌, Bool, true, false, cond, ◌&&◌, List, [], ◌∷◌, ◌++◌, map, length, take, Some, None, Option, ◌==◌, nat_le, nat_lt, slice_index_or}
-use Rattle.std.specs.List.{AllByRecursion, remove}
+use Rattle.std.specs.Prelude.{◌≡◌, ℕ, zero, suc, ◌+◌, ◌-◌, ◌<◌, cond, ◌&&◌, List, [], ◌∷◌, ◌++◌, length, take, Some, None, Option, ◌==◌, nat_le, nat_lt, slice_index_or}
+use Rattle.std.specs.List.{remove}
 use Rattle.stock.specs.declared.refusal.Refusal.{Refusal}
 use Rattle.stock.specs.declared.refusal.Refusal.TheVariants.{NotShown, BadRow, NoRoom}
 use Rattle.stock.specs.Tables.{Table, width_of, rows_of}
 use Rattle.cells.specs.Cells.{Row, stored}
-use Rattle.cells.specs.declared.cell.Cell.{Cell}
 use Rattle.movements.specs.declared.moved.Added.{Added}
 use Rattle.movements.specs.declared.moved.Hidden.{Hidden}
 

@@ -1,6 +1,6 @@
 -- Laws of withdrawals and additions. Assumes nothing.
 use Rattle.std.specs.Prelude.{◌≡◌, ℕ, zero, suc, ◌+◌, ◌-◌, ◌<◌, ◌≤◌, min, Bool, true, false, cond, ◌&&◌, List, [], ◌∷◌, ◌++◌, length, get_or, take, drop, ◌==◌, ◌≢◌, nat_le, nat_lt, slice_index_or, refl}
-use Rattle.std.proofs.Common.{sym, ap, subst, ◌∙◌, ⊎_elim, arith, add-one}
+use Rattle.std.proofs.Common.{sym, ap, ◌∙◌, ⊎_elim, arith, add-one}
 use Rattle.std.specs.List.{remove, AllByRecursion}
 use Rattle.std.proofs.lemmas.Bool.{cases_lt, lt-ltb, le-ltb, le-leb, lt-leb, eq-eqb, ne_eqb, and_parts, and_from}
 use Rattle.std.proofs.lemmas.List.{take_more, take_all, drop_all, append-nil, get_or_past, length-take-le, append_assoc, drop_more, get_or_at, length-take, take-append-drop, take_at, drop_at, length-append, get_or-take, get_or_append_left, get_or-append_right}
@@ -9,7 +9,7 @@ use Rattle.std.proofs.lemmas.List.Edits.{length-remove, get_or-remove_below, get
 use Rattle.movements.specs.Moves.{take_out, remaining, fewer, before, added_rows, added_count, Nth, one_moved, moved_from, moved}
 use Rattle.stock.specs.Tables.{Table, Lawful, LawfulTable, LawfulRow, no_table, width_of, rows_of, cell_of, every, rows_at}
 use Rattle.cells.specs.Cells.{Row, stored}
-use Rattle.std.proofs.ByRecursion.{All-get_or, All-append, All-take, All-drop}
+use Rattle.std.proofs.ByRecursion.{All-append, All-take, All-drop}
 use Rattle.cells.specs.declared.cell.Cell.{Cell}
 use Rattle.movements.specs.declared.moved.Added.{Added}
 use Rattle.movements.specs.declared.moved.Hidden.{Hidden}

@@ -1,5 +1,5 @@
 -- Whole runs of rows, one after another.
-use Rattle.std.proofs.Common.{◌≡◌, ℕ, ◌+◌, ◌-◌, ◌*◌, ◌<◌, ◌≤◌, List, ◌++◌, length, sym, refl, ap, ◌∙◌, subst, add-mul, le-mul_of_pos_right, arith, length-append}
+use Rattle.std.proofs.Common.{◌≡◌, ℕ, ◌+◌, ◌-◌, ◌*◌, ◌<◌, ◌≤◌, List, ◌++◌, length, sym, ap, ◌∙◌, subst, add-mul, arith, length-append}
 use Rattle.cells.specs.Cells.{Row}
 use Rattle.cells.specs.declared.cell.Cell.{Cell}
 use Rattle.operators.specs.Places.{row_at, rows_from}

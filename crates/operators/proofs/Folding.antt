@@ -1,8 +1,7 @@
 -- Aggregates row by row.
-use Rattle.std.proofs.Common.{◌≡◌, ℕ, zero, suc, ◌+◌, ◌-◌, ◌*◌, ◌<◌, ◌≤◌, Bool, true, false, cond, List, [], ◌∷◌, ◌++◌, map, length, get_or, take, drop, ℤ, pos, negsuc, ◌+ℤ◌, Some, None, filter, Option, sym, refl, ap, ◌∙◌, subst, ap₂, add-mul, one-mul, arith}
-use Rattle.std.specs.List.{AllByRecursion}
+use Rattle.std.proofs.Common.{◌≡◌, ℕ, ◌+◌, ◌-◌, ◌*◌, ◌<◌, ◌≤◌, Bool, true, false, cond, List, [], ◌∷◌, ◌++◌, map, length, get_or, take, drop, ℤ, pos, negsuc, ◌+ℤ◌, Some, None, filter, Option, sym, refl, ap, ◌∙◌, subst, ap₂, add-mul, one-mul, arith}
 use Rattle.std.proofs.lemmas.Int.{ints}
-use Rattle.std.proofs.lemmas.Bool.{ltb-true, cond-true, cond-false}
+use Rattle.std.proofs.lemmas.Bool.{ltb-true}
 use Rattle.std.proofs.ByRecursion.{All-get_or}
 use Rattle.cells.specs.Cells.{Row, same_row, stored}
 use Rattle.cells.specs.declared.cell.Cell.{Cell}

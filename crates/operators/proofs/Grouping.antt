@@ -1,10 +1,10 @@
 -- Rows in groups.
-use Rattle.std.proofs.Common.{◌≡◌, ℕ, ◌+◌, ◌-◌, ◌*◌, ◌<◌, ◌≤◌, Bool, true, false, cond, not, ◌||◌, List, [], ◌∷◌, ◌++◌, map, length, get_or, take, drop, filter, sym, refl, ap, ◌∙◌, subst, ap₂, one-mul, le-mul_of_pos_right, arith}
-use Rattle.std.proofs.lemmas.List.{map_push, map-append}
+use Rattle.std.proofs.Common.{◌≡◌, ℕ, ◌+◌, ◌*◌, ◌<◌, ◌≤◌, Bool, true, false, cond, not, ◌||◌, List, [], ◌∷◌, ◌++◌, map, length, take, filter, sym, refl, ap, ◌∙◌, subst, ap₂, one-mul, le-mul_of_pos_right, arith}
+use Rattle.std.proofs.lemmas.List.{map_push}
 use Rattle.std.proofs.lemmas.Bool.{cond-true, cond-false}
 use Rattle.cells.specs.Cells.{Row, same_row}
 use Rattle.cells.specs.declared.cell.Cell.{Cell}
-use Rattle.lines.specs.Ops.{alike, some_of, folded, distinct_rows, group_rows}
+use Rattle.lines.specs.Ops.{alike, some_of, folded, group_rows}
 use Rattle.lines.specs.declared.line.Aggregate.{Aggregate}
 use Rattle.operators.specs.Places.{row_at, rows_in, region_end, next_row, Stands, Room}
 use Rattle.operators.specs.Laid.{Laid, Put}

@@ -1,14 +1,14 @@
 -- Cells that are copied, put or compared one by one.
-use Rattle.std.proofs.Common.{◌≡◌, ℕ, zero, suc, ◌+◌, ◌-◌, ◌*◌, ◌<◌, ◌≤◌, Bool, true, false, ◌&&◌, ◌⊎◌, List, [], ◌∷◌, ◌++◌, length, get_or, take, drop, set, replicate, sym, refl, ap, ◌∙◌, inl, inr, ⊎_elim, arith, rules}
+use Rattle.std.proofs.Common.{◌≡◌, ℕ, ◌+◌, ◌-◌, ◌<◌, ◌≤◌, Bool, true, false, ◌&&◌, ◌⊎◌, List, [], ◌∷◌, ◌++◌, length, get_or, take, drop, set, replicate, sym, refl, ap, ◌∙◌, inl, inr, arith, rules}
 use lib.Seq.{paste}
-use Rattle.std.proofs.lemmas.List.{places, length-drop, length-replicate, get_or-drop, same_lists, take_all, take_more, length-set, take-set, drop-set, drop_more}
-use Rattle.std.proofs.lemmas.List.Edits.{paste_more, take-paste, length-paste}
+use Rattle.std.proofs.lemmas.List.{places, length-drop, length-replicate, same_lists, take_all, length-set, take-set, drop-set, drop_more}
+use Rattle.std.proofs.lemmas.List.Edits.{paste_more, length-paste}
 use Rattle.std.proofs.lemmas.Bool.{and_from, and_left, and_right}
 use mathlib.Core.Bool.{and_assoc}
 use Rattle.cells.specs.Cells.{Row, same_cell, same_row}
 use Rattle.cells.specs.declared.cell.Cell.{Cell}
-use Rattle.cells.specs.declared.cell.Cell.TheVariants.{Null, Number}
-use Rattle.operators.specs.Places.{row_at, rows_from}
+use Rattle.cells.specs.declared.cell.Cell.TheVariants.{Null}
+use Rattle.operators.specs.Places.{row_at}
 use Rattle.operators.specs.Laid.{Put}
 use Rattle.operators.proofs.Stack.{row_append, row_length}
 

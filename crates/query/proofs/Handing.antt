@@ -5,7 +5,6 @@ use Rattle.std.proofs.lemmas.List.{get_or-set_same, get_or-set_other, length-set
 use Rattle.lines.specs.declared.line.Line.{Line}
 use Rattle.lines.specs.declared.line.Shape.{Shape}
 use Rattle.lines.specs.declared.line.Line.TheVariants.{Unit as UnitL}
-use Rattle.lines.specs.Lines.{at}
 use Rattle.query.specs.Contexts.{first_of, handed, handed_by, read_under, shares, widens}
 use Rattle.lines.specs.Shapes.{line_at, shape_of}
 

@@ -1,7 +1,7 @@
 -- Rows whose unmarked columns are in store.
-use Rattle.std.proofs.Common.{◌≡◌, ℕ, ◌+◌, ◌≤◌, Bool, true, false, cond, not, List, [], ◌∷◌, length, get_or, pos, refl, ap, arith}
+use Rattle.std.proofs.Common.{◌≡◌, ℕ, ◌+◌, ◌≤◌, Bool, true, false, cond, List, [], ◌∷◌, length, get_or, pos, refl, ap, arith}
 use Rattle.std.specs.List.{flat_map, AllByRecursion}
-use Rattle.std.proofs.ByRecursion.{All-append, all_kept_by}
+use Rattle.std.proofs.ByRecursion.{All-append}
 use Rattle.std.proofs.lemmas.Bool.{lt-ltb}
 use Rattle.lines.specs.declared.line.Aggregate.{Aggregate}
 use Rattle.cells.specs.declared.cell.Cell.{Cell}
@@ -9,9 +9,9 @@ use Rattle.cells.specs.declared.truth.Truth.TheVariants.{False, True, Unknown}
 use Rattle.lines.specs.declared.line.Aggregate.TheVariants.{Filled, Greatest, Least, Rows, Sum}
 use Rattle.query.specs.Stored.{InStore}
 use Rattle.cells.specs.declared.cell.Cell.TheVariants.{Null, Number}
-use Rattle.cells.specs.Cells.{Row, as_cell, less_ℤ, same_row, stored}
+use Rattle.cells.specs.Cells.{Row, as_cell, less_ℤ, stored}
 use Rattle.cells.specs.declared.truth.Truth.{Truth}
-use Rattle.lines.specs.Ops.{diff_rows, distinct_rows, filled_one, folded, greatest_cell, least_cell, plus_cell, some_of, without}
+use Rattle.lines.specs.Ops.{filled_one, folded, greatest_cell, least_cell, plus_cell}
 use Rattle.lines.specs.Marks.{fold_from}
 
 pub truth_in_store : (t : Truth) → InStore (as_cell t)

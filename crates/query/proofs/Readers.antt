@@ -7,9 +7,7 @@ use Rattle.lines.specs.declared.line.Shape.TheVariants.{Inner, Leaf, One, Part, 
 use Rattle.lines.specs.declared.line.Line.{Line}
 use Rattle.query.specs.Reads.{Never, condition_below, misread, one_if, rows_below, times, times_in, well_read}
 use Rattle.lines.specs.declared.line.Shape.{Shape}
-use Rattle.lines.specs.Lines.{at}
 use Rattle.query.specs.Contexts.{first_of, handed, handed_by, read_under, shares, widens}
-use Rattle.lines.specs.Marks.{own}
 use Rattle.query.proofs.Reading.{times_in_append, times_in_more}
 use Rattle.query.proofs.Handing.{under_at, under_end}
 

@@ -3,7 +3,6 @@ use Rattle.std.proofs.Common.{◌≡◌, ℕ, zero, suc, ◌+◌, ◌-◌, ◌*�
 use Rattle.std.proofs.lemmas.Bool.{cond-false, ne_eqb}
 use Rattle.std.specs.List.{flat_map}
 use Rattle.cells.specs.declared.cell.Cell.{Cell}
-use Rattle.stock.specs.Tables.{Table}
 use Rattle.shelf.specs.Cut.{rows_cut, cut, fault_from, fault, unless_fault, shelved, check_answer, laid_out}
 use Rattle.shelf.specs.Cutting.{fault_parts}
 

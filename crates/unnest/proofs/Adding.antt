@@ -1,16 +1,12 @@
 -- Each kind's flat lines and counts, from its operands.
-use Rattle.std.proofs.Common.{◌≡◌, ℕ, ◌+◌, ◌-◌, ◌<◌, ◌≤◌, Bool, true, false, List, [], ◌∷◌, ◌++◌, length, sym, refl, ap, ◌∙◌, subst, arith}
-use Rattle.std.proofs.lemmas.List.{length-append}
+use Rattle.std.proofs.Common.{◌≡◌, ℕ, ◌≤◌, false, List, [], ◌∷◌, refl, arith}
 use Rattle.cells.specs.declared.sign.Sign.{Sign}
 use Rattle.lines.specs.declared.line.Aggregate.{Aggregate}
 use Rattle.lines.specs.declared.line.Line.{Line}
 use Rattle.lines.specs.declared.line.Line.TheVariants.{Table as TableL, Unit as UnitL, Select, Keep, Extend, ExtendTruth, Pad, Match, SemiMatch, AntiMatch, Union, Diff, Distinct, Group, Total, ApplyCross, ApplyOuter, ApplySemi, ApplyAnti, ApplySome, ApplyAll, Compare, IsNull, Not, Unknown as UnknownL, And, Or}
-use Rattle.lines.specs.declared.line.Shape.{Shape}
-use Rattle.lines.specs.declared.line.Shape.TheVariants.{Leaf, One, Two, Tested, Inner, Part, Parts}
-use Rattle.lines.specs.Lines.{Node, as_rows, at, build, grow}
-use Rattle.lines.specs.Marks.{Marks, own, Sound}
+use Rattle.lines.specs.Lines.{Node, as_rows, build}
+use Rattle.lines.specs.Marks.{Marks, Sound}
 use Rattle.lines.specs.Shapes.{shape_of, is_condition}
-use Rattle.lines.specs.Trees.{width}
 use Rattle.unnest.specs.Emit.{Place, breadth, emit}
 use Rattle.unnest.specs.Kinds.{own_count, raised, own_lines, apply_own, rows_of, lines_by}
 use Rattle.lines.proofs.Soundness.{short}

@@ -1,6 +1,5 @@
 -- The flat plan has each row exactly as often as the query.
-use Rattle.std.proofs.Common.{◌≡◌, ℕ, zero, suc, ◌+◌, ◌-◌, ◌*◌, ◌<◌, ◌≤◌, Bool, true, false, cond, not, ◌&&◌, ◌||◌, List, [], ◌∷◌, ◌++◌, map, length, get_or, take, drop, replicate, ℤ, pos, filter, sym, refl, ap, ◌∙◌, subst, ap₂, add-zero, zero-add, arith}
-use Rattle.std.specs.List.{flat_map, AllByRecursion}
+use Rattle.std.proofs.Common.{◌≡◌, ℕ, ◌+◌, ◌-◌, ◌<◌, ◌≤◌, Bool, true, cond, List, [], ◌∷◌, ◌++◌, map, length, get_or, take, drop, replicate, pos, filter, sym, refl, ap, ◌∙◌, ap₂, add-zero, arith}
 use Rattle.std.proofs.lemmas.List.{append_assoc, length-append}
 use Rattle.std.proofs.ByRecursion.{All-weaker}
 use Rattle.cells.specs.Cells.{Row, as_cell, compare_cells}
@@ -15,7 +14,7 @@ use Rattle.lines.specs.declared.line.Aggregate.{Aggregate}
 use Rattle.stock.specs.Tables.{Table, widths}
 use Rattle.lines.proofs.Goods.{Good}
 use Rattle.unnest.specs.Flat.{Ctx, top, under, cols, spread, totalled, with_cell, flat}
-use Rattle.lines.proofs.Weights.{W, W_cong, W_map, W_joined, count_W, Bag, same_from}
+use Rattle.lines.proofs.Weights.{W, W_cong, W_map, W_joined, same_from}
 use Rattle.unnest.proofs.Lifts.{Dom, Lifted, lift_distinct, lift_diff}
 use Rattle.lines.proofs.Joins.{kept_all}
 use Rattle.unnest.proofs.Raise.{take_under, drop_under, lift_map, lift_map', lift_kept, lift_union, lift_match, lift_semi, lift_anti}

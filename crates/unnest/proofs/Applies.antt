@@ -1,10 +1,9 @@
 -- The six Applies, lifted.
-use Rattle.std.proofs.Common.{◌≡◌, ℕ, zero, suc, ◌+◌, ◌-◌, ◌*◌, ◌<◌, ◌≤◌, Bool, true, false, cond, not, ◌&&◌, ◌||◌, List, [], ◌∷◌, ◌++◌, map, length, get_or, take, drop, replicate, ℤ, pos, filter, sym, refl, ap, ◌∙◌, subst, ap₂, add-zero, zero-add, arith}
+use Rattle.std.proofs.Common.{◌≡◌, ℕ, ◌+◌, ◌<◌, ◌≤◌, Bool, true, false, cond, not, ◌||◌, List, [], ◌∷◌, ◌++◌, map, length, get_or, drop, replicate, pos, filter, sym, refl, ap, ◌∙◌, ap₂, arith}
 use native.Mathlib.Nat.{sub_self}
 use Rattle.std.specs.List.{flat_map, AllByRecursion}
 use Rattle.std.proofs.lemmas.List.{append_assoc, drop_at, get_or_append_left, get_or-append_right}
-use Rattle.std.proofs.ByRecursion.{all_kept_by}
-use Rattle.cells.specs.Cells.{Row, same_row, as_cell, compare_cells}
+use Rattle.cells.specs.Cells.{Row, as_cell, compare_cells}
 use Rattle.cells.specs.Truths.{holds, is_unknown, truth_of, not3, or3, and3}
 use Rattle.cells.specs.declared.cell.Cell.{Cell}
 use Rattle.cells.specs.declared.cell.Cell.TheVariants.{Null, Number}
@@ -13,8 +12,8 @@ use Rattle.cells.specs.declared.truth.Truth.{Truth}
 use Rattle.cells.specs.declared.truth.Truth.TheVariants.{True, False, Unknown}
 use Rattle.lines.specs.Ops.{count, some_of, distinct_rows, alike, match_rows, semi_rows, anti_rows}
 use Rattle.lines.specs.Trees.{empty, outer_rows, ors, ands, against}
-use Rattle.lines.proofs.Weights.{W, W_all, W_cong, W_append, W_map, W_kept, W_joined, W_plus, positive, positive_from, positive_true, some_count, count_here}
-use Rattle.lines.proofs.Counts.{one, count_distinct}
+use Rattle.lines.proofs.Weights.{W, W_all, W_cong, W_append, W_map, W_kept, W_joined, W_plus, positive, positive_from, count_here}
+use Rattle.lines.proofs.Counts.{count_distinct}
 use Rattle.unnest.proofs.Lifts.{Dom, Lifted, both, pick, some_pick}
 use Rattle.unnest.proofs.Raise.{alike_at, some_any, lift_kept}
 use Rattle.lines.proofs.Widths.{Wide, all_distinct, wide_distinct}

@@ -1,17 +1,17 @@
 -- The emitted lines stand for the flat tree.
-use Rattle.std.proofs.Common.{◌≡◌, ℕ, zero, suc, ◌+◌, ◌-◌, ◌<◌, ◌≤◌, List, [], ◌∷◌, ◌++◌, length, get_or, ℤ, pos, sym, refl, ap, ◌∙◌, subst, ap₂, add-zero, add_assoc, zero-add, arith}
+use Rattle.std.proofs.Common.{◌≡◌, ℕ, ◌+◌, ◌-◌, ◌<◌, List, [], ◌∷◌, ◌++◌, length, pos, sym, refl, ap, ◌∙◌, subst, add-zero, add_assoc, zero-add, arith}
 use Rattle.std.proofs.lemmas.List.{append_assoc, append-nil, length-append, length_push, get_or_append_left, get_or_push, get_or-append-add}
 use Rattle.cells.specs.declared.cell.Cell.{Cell}
 use Rattle.cells.specs.declared.cell.Cell.TheVariants.{Null, Number}
 use Rattle.lines.specs.Ops.{none_of}
 use Rattle.cells.specs.declared.sign.Sign.{Sign}
 use Rattle.lines.specs.Lines.{Node, rows_node, cond_node, as_rows, at, build, grow, answer}
-use Rattle.lines.specs.Trees.{Cond, compare, is_null, not_of, unknown_of, and_of, or_of, Tree, table, unit, select, keep, extend, extend_truth, pad, match, semi_match, anti_match, union, diff, distinct, group, total, cross, outer, semi, anti, some, all, width, rows}
+use Rattle.lines.specs.Trees.{Cond, compare, is_null, not_of, unknown_of, and_of, or_of, Tree, table, unit, select, keep, extend, extend_truth, pad, match, semi_match, anti_match, union, diff, distinct, group, total, cross, outer, semi, anti, some, all, width}
 use Rattle.lines.specs.declared.line.Aggregate.{Aggregate}
 use Rattle.lines.specs.declared.line.Line.{Line}
 use Rattle.lines.specs.declared.line.Line.TheVariants.{Table as TableL, Unit as UnitL, Select, Keep, Extend, ExtendTruth, Pad, Match, SemiMatch, AntiMatch, Union, Diff, Distinct, Group, Total, Compare, IsNull, Not, Unknown as UnknownL, And, Or}
 use Rattle.lines.specs.declared.line.Side.TheVariants.{Column, Constant}
-use Rattle.lines.proofs.Growing.{grow_append, grow_length, grow_keeps}
+use Rattle.lines.proofs.Growing.{grow_append, grow_length}
 use Rattle.unnest.specs.Emit.{Place, outermost, inside, breadth, chain, emit_condition, emit, spread_lines, total_lines, cell_line, outer_lines, some_lines, all_lines}
 use Rattle.unnest.specs.Flat.{Ctx, top, under, cols, flat, spread, totalled, with_cell, flat_outer, flat_some, flat_all}
 

@@ -1,6 +1,6 @@
 -- Unnesting keeps soundness, and leaves no Apply.
-use Rattle.std.proofs.Common.{◌≡◌, ℕ, zero, suc, ◌+◌, ◌-◌, ◌<◌, ◌≤◌, Bool, true, false, cond, not, ◌&&◌, ◌||◌, List, [], ◌∷◌, ◌++◌, length, get_or, take, drop, replicate, ℤ, pos, sym, refl, ap, ◌∙◌, subst, ap₂, add-zero, suc-add, zero-add, arith}
-use Rattle.std.proofs.lemmas.List.{append_assoc, append-nil, length-append, length-take, length-drop, length-replicate, take_all, take_at, drop_at}
+use Rattle.std.proofs.Common.{◌≡◌, ℕ, zero, suc, ◌+◌, ◌-◌, ◌<◌, ◌≤◌, Bool, true, false, ◌||◌, List, [], ◌∷◌, ◌++◌, length, get_or, take, drop, replicate, ℤ, pos, sym, refl, ap, ◌∙◌, subst, ap₂, zero-add, arith}
+use Rattle.std.proofs.lemmas.List.{append_assoc, length-append, take_at, drop_at}
 use Rattle.cells.specs.Cells.{stored}
 use Rattle.cells.specs.declared.cell.Cell.{Cell}
 use Rattle.cells.specs.declared.cell.Cell.TheVariants.{Null, Number}
@@ -11,7 +11,7 @@ use Rattle.lines.specs.declared.line.Aggregate.{Aggregate}
 use Rattle.lines.specs.declared.line.Aggregate.TheVariants.{Rows, Filled, Sum, Least, Greatest}
 use Rattle.lines.specs.declared.line.Side.{Side}
 use Rattle.lines.specs.declared.line.Side.TheVariants.{Column}
-use Rattle.lines.proofs.Soundness.{either_length, push_length, own_length, short, thick}
+use Rattle.lines.proofs.Soundness.{own_length}
 use Rattle.unnest.proofs.Raise.{take_under, drop_under}
 use Rattle.unnest.specs.Flat.{Ctx, top, under, cols, flat, spread, totalled, with_cell, flat_quant}
 use Rattle.unnest.specs.Plans.{Plain}

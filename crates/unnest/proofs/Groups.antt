@@ -1,13 +1,11 @@
 -- Group and Total, lifted.
-use Rattle.std.proofs.Common.{◌≡◌, ℕ, zero, suc, ◌+◌, ◌-◌, ◌*◌, ◌<◌, ◌≤◌, Bool, true, false, cond, not, ◌&&◌, ◌||◌, List, [], ◌∷◌, ◌++◌, map, length, take, drop, filter, sym, refl, ap, ◌∙◌, subst, ap₂, add-zero, suc-add, zero-add, arith}
-use mathlib.Core.Bool.{and-true}
-use Rattle.std.specs.List.{flat_map, AllByRecursion}
+use Rattle.std.proofs.Common.{◌≡◌, ℕ, ◌+◌, Bool, true, false, cond, not, List, [], ◌∷◌, ◌++◌, map, length, take, filter, sym, refl, ap, ◌∙◌, subst, ap₂, add-zero, arith}
 use Rattle.std.proofs.lemmas.List.{append_assoc}
 use Rattle.cells.specs.Cells.{Row, same_row}
 use Rattle.lines.specs.Ops.{count, some_of, distinct_rows, alike, anti_rows, folded, group_rows, none_of}
 use Rattle.lines.specs.Trees.{empty}
 use Rattle.lines.specs.declared.line.Aggregate.{Aggregate}
-use Rattle.lines.proofs.Weights.{W, W_all, W_cong, W_append, W_map, W_kept, W_plus, Bag}
+use Rattle.lines.proofs.Weights.{W, W_cong, W_append, W_map, W_kept, W_plus, Bag}
 use Rattle.lines.proofs.Sameness.{same_split}
 use Rattle.unnest.proofs.Lifts.{Dom, Lifted, in_dom, pick, some_pick, lift_distinct}
 use Rattle.lines.proofs.Joins.{kept_all}

@@ -1,20 +1,20 @@
 -- From the emitted lines, one after the other, to what is said of each line by its number.
-use Rattle.std.proofs.Common.{◌≡◌, ℕ, zero, suc, ◌+◌, ◌-◌, ◌<◌, ◌≤◌, Bool, true, false, List, [], ◌∷◌, ◌++◌, length, get_or, take, sym, refl, ap, ◌∙◌, subst, zero-add, arith}
+use Rattle.std.proofs.Common.{◌≡◌, ℕ, zero, suc, ◌-◌, ◌<◌, ◌≤◌, Bool, true, false, List, [], ◌∷◌, ◌++◌, length, get_or, take, sym, refl, ap, ◌∙◌, subst, zero-add, arith}
 use Rattle.lines.specs.Lines.{Node, rows_node, cond_node, at, build, grow, answer}
 use Rattle.lines.specs.Marks.{Sound}
 use Rattle.lines.specs.Shapes.{shape_of, Below, Ordered, line_at, is_condition}
-use Rattle.lines.specs.Trees.{unit, width}
+use Rattle.lines.specs.Trees.{width}
 use Rattle.lines.specs.declared.line.Line.{Line}
 use Rattle.lines.specs.declared.line.Line.TheVariants.{Table as TableL, Unit as UnitL, Select, Keep, Extend, ExtendTruth, Pad, Match, SemiMatch, AntiMatch, Union, Diff, Distinct, Group, Total, ApplyCross, ApplyOuter, ApplySemi, ApplyAnti, ApplySome, ApplyAll, Compare, IsNull, Not, Unknown as UnknownL, And, Or}
 use Rattle.lines.specs.declared.line.Shape.{Shape}
 use Rattle.lines.specs.declared.line.Shape.TheVariants.{Leaf, One, Two, Tested, Inner, Part, Parts}
-use Rattle.unnest.specs.Emit.{emit, outermost, flat_lines}
+use Rattle.unnest.specs.Emit.{outermost, flat_lines}
 use Rattle.unnest.specs.Flat.{flat, top}
 use Rattle.unnest.specs.Plans.{Runnable, is_apply, RowsBelow, ConditionBelow, Reads, WellFormed}
 use Rattle.unnest.proofs.Feeding.{IsRows, IsCondition, HasRows, HasCondition, Fed, PlanFrom}
 use Rattle.lines.proofs.Growing.{grow_length, front_length, front_at, build_lower, node_is}
-use Rattle.unnest.proofs.Emits.{Step, emits, unnested}
-use Rattle.unnest.proofs.Flats.{Flat, flats}
+use Rattle.unnest.proofs.Emits.{emits, unnested}
+use Rattle.unnest.proofs.Flats.{flats}
 use Rattle.unnest.proofs.Lays.{lays_plan}
 
 each : (ws : List ℕ) (o : List Node) (ls : List Line) (j : ℕ) (z : Line) → j < length ls → PlanFrom ws o ls

@@ -1,19 +1,19 @@
 -- The agreement and the lifted law, on lines.
-use Rattle.std.proofs.Common.{◌≡◌, ℕ, ◌+◌, ◌-◌, ◌<◌, ◌≤◌, Bool, true, false, cond, List, [], ◌∷◌, ◌++◌, length, sym, refl, ap, ◌∙◌, subst, zero-add, arith}
+use Rattle.std.proofs.Common.{◌≡◌, ℕ, ◌+◌, ◌-◌, ◌<◌, ◌≤◌, cond, List, [], ◌∷◌, ◌++◌, length, sym, ap, ◌∙◌, subst, zero-add, arith}
 use Rattle.std.specs.List.{AllByRecursion}
 use Rattle.std.proofs.lemmas.List.{length-append}
 use Rattle.cells.specs.Cells.{Row, same_row}
 use Rattle.lines.specs.declared.line.Line.{Line}
 use Rattle.lines.specs.Lines.{Node, rows_node, as_rows, at, grow, answer}
-use Rattle.lines.specs.Marks.{Marks, Sound}
+use Rattle.lines.specs.Marks.{Sound}
 use Rattle.lines.specs.Ops.{count}
 use Rattle.lines.specs.Shapes.{tree_at}
 use Rattle.lines.specs.Trees.{Tree, rows}
-use Rattle.stock.specs.Tables.{Table, Lawful, widths}
+use Rattle.stock.specs.Tables.{widths}
 use Rattle.unnest.specs.Emit.{emit, inside, flat_lines}
-use Rattle.unnest.specs.Flat.{flat, top, under}
-use Rattle.unnest.specs.Statement.{Agree, DomainRows, followed, line_rows, LiftedLaw}
-use Rattle.lines.proofs.Weights.{W, count_W, count_here}
+use Rattle.unnest.specs.Flat.{flat, under}
+use Rattle.unnest.specs.Statement.{Agree, followed, line_rows, LiftedLaw}
+use Rattle.lines.proofs.Weights.{count_W, count_here}
 use Rattle.unnest.proofs.Lifts.{Dom, Lifted, lifted_lift}
 use Rattle.lines.proofs.Widths.{lawful_fits}
 use Rattle.lines.proofs.Goods.{sound_good}

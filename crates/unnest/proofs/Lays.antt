@@ -1,5 +1,5 @@
 -- The emitted lines are lines of a flat plan.
-use Rattle.std.proofs.Common.{◌≡◌, ℕ, zero, suc, ◌+◌, ◌-◌, ◌<◌, ◌≤◌, Bool, true, false, cond, not, ◌&&◌, ◌||◌, List, [], ◌∷◌, ◌++◌, length, get_or, take, drop, replicate, ℤ, pos, sym, refl, ap, ◌∙◌, subst, ap₂, add-zero, suc-add, zero-add, arith}
+use Rattle.std.proofs.Common.{◌≡◌, ℕ, ◌+◌, ◌-◌, ◌<◌, List, [], ◌∷◌, ◌++◌, length, ℤ, pos, sym, refl, ap, ◌∙◌, subst, arith}
 use Rattle.std.proofs.lemmas.List.{append_assoc, append-nil, length-append, length_push}
 use Rattle.cells.specs.declared.cell.Cell.{Cell}
 use Rattle.cells.specs.declared.cell.Cell.TheVariants.{Null, Number}
@@ -11,14 +11,14 @@ use Rattle.lines.specs.Shapes.{shape_of}
 use Rattle.lines.specs.Trees.{Cond, compare, is_null, not_of, unknown_of, and_of, or_of, Tree, table, unit, select, keep, extend, extend_truth, pad, match, semi_match, anti_match, union, diff, distinct, group, total, cross, outer, semi, anti, some, all, width}
 use Rattle.lines.specs.declared.line.Aggregate.{Aggregate}
 use Rattle.lines.specs.declared.line.Line.{Line}
-use Rattle.lines.specs.declared.line.Line.TheVariants.{Table as TableL, Unit as UnitL, Select, Keep, Extend, ExtendTruth, Pad, Match, SemiMatch, AntiMatch, Union, Diff, Distinct, Group, Total, Compare, IsNull, Not, Unknown as UnknownL, And, Or}
+use Rattle.lines.specs.declared.line.Line.TheVariants.{Table as TableL, Unit as UnitL, Select, Keep, Extend, ExtendTruth, Pad, Match, SemiMatch, AntiMatch, Union, Diff, Distinct, Group, Total, Compare, Not, Unknown as UnknownL, And, Or}
 use Rattle.lines.specs.declared.line.Side.TheVariants.{Column, Constant}
 use Rattle.unnest.specs.Emit.{Place, outermost, inside, breadth, chain, emit_condition, emit, spread_lines, total_lines, cell_line, outer_lines, some_lines, all_lines, quant_lines}
 use Rattle.unnest.specs.Flat.{under, cols, flat, spread, totalled, with_cell, flat_outer, flat_quant, flat_some, flat_all}
 use Rattle.unnest.specs.Plans.{Plain, Runnable}
 use Rattle.unnest.proofs.Feeding.{IsRows, IsCondition, HasRows, HasCondition, Fed, PlanFrom}
-use Rattle.lines.proofs.Growing.{grow_append, grow_length}
-use Rattle.unnest.proofs.Emits.{cell_builds, grow_chain, Step, onward, reach, one_line, step_is, at_old, at_new, at_first, ctx, Ready, breadth_is, ctx_kept, ready_kept, emits_condition, emits}
+use Rattle.lines.proofs.Growing.{grow_length}
+use Rattle.unnest.proofs.Emits.{cell_builds, Step, onward, reach, one_line, step_is, at_old, at_new, at_first, ctx, Ready, breadth_is, ctx_kept, ready_kept, emits_condition, emits}
 use Rattle.unnest.proofs.Flats.{Domain, Stands, Flat, flats, domain, cols_is}
 
 module _ (ws : List ℕ) where

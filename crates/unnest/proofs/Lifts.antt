@@ -1,12 +1,11 @@
 -- A flat line's rows against the rows of a line in each context of a domain.
-use Rattle.std.proofs.Common.{◌≡◌, ℕ, zero, suc, ◌+◌, ◌-◌, ◌*◌, ◌<◌, ◌≤◌, Bool, true, false, cond, not, ◌&&◌, ◌||◌, ◌⊎◌, List, [], ◌∷◌, ◌++◌, map, length, take, drop, filter, sym, refl, ap, ◌∙◌, ap₂, inl, inr, add-zero, one-mul, zero-add, zero-mul, arith}
+use Rattle.std.proofs.Common.{◌≡◌, ℕ, ◌+◌, ◌-◌, ◌*◌, Bool, true, false, cond, ◌&&◌, ◌||◌, ◌⊎◌, List, [], ◌∷◌, ◌++◌, map, length, take, drop, sym, refl, ap, ◌∙◌, ap₂, inl, inr, one-mul, zero-mul, arith}
 use Rattle.std.specs.List.{flat_map, AllByRecursion}
-use Rattle.std.proofs.lemmas.List.{append_assoc, take_at, drop_at, length-append}
 use Rattle.cells.specs.Cells.{Row, same_row, same_cell}
 use Rattle.lines.specs.Ops.{count, some_of, distinct_rows, diff_rows}
-use Rattle.lines.proofs.Counts.{one, count_distinct, count_diff, count_kept}
-use Rattle.lines.proofs.Weights.{W, W_all, W_cong, W_append, W_map, W_kept, W_joined, W_plus, W_zero, W_cond, cond_and, count_W, all_of, positive, positive_false, some_count, bag_from, some_W}
-use Rattle.lines.proofs.Sameness.{same_eq, same_refl, same_split}
+use Rattle.lines.proofs.Counts.{one, count_distinct, count_diff}
+use Rattle.lines.proofs.Weights.{W, W_all, W_cong, W_map, W_joined, W_cond, cond_and, count_W, all_of, positive, positive_false, some_count, bag_from, some_W}
+use Rattle.lines.proofs.Sameness.{same_eq}
 
 -- the domain: each row once, all of c columns
 pub record Dom (c : ℕ) (D : List Row) : Type 0 where

@@ -1,8 +1,6 @@
 -- From a line to its operands, and from their flat lines to the line's.
-use Rattle.std.proofs.Common.{◌≡◌, ℕ, ◌+◌, ◌-◌, ◌<◌, ◌≤◌, List, [], ◌∷◌, ◌++◌, length, get_or, Ok, Err, Result, sym, refl, ap, ◌∙◌, subst, arith}
+use Rattle.std.proofs.Common.{◌≡◌, ℕ, ◌+◌, ◌-◌, ◌<◌, ◌≤◌, List, [], ◌∷◌, ◌++◌, length, Result, sym, refl, ap, ◌∙◌, subst, arith}
 use Rattle.std.proofs.lemmas.List.{length-append}
-use Rattle.cells.specs.declared.sign.Sign.{Sign}
-use Rattle.lines.specs.declared.line.Side.{Side}
 use Rattle.lines.specs.declared.line.Line.{Line}
 use Rattle.lines.specs.declared.line.Line.TheVariants.{Table as TableL, Unit as UnitL, Select, Keep, Extend, ExtendTruth, Pad, Match, SemiMatch, AntiMatch, Union, Diff, Distinct, Group, Total, ApplyCross, ApplyOuter, ApplySemi, ApplyAnti, ApplySome, ApplyAll, Compare, IsNull, Not, Unknown as UnknownL, And, Or}
 use Rattle.lines.specs.declared.line.Shape.{Shape}
@@ -10,11 +8,11 @@ use Rattle.lines.specs.declared.line.Shape.TheVariants.{Leaf, One, Two, Tested, 
 use Rattle.lines.specs.Lines.{Node, as_rows, as_cond, at, build, grow}
 use Rattle.lines.specs.Marks.{Marks, own, Sound}
 use Rattle.lines.specs.Shapes.{shape_of, Below, Lower, Ordered, line_at, tree_at}
-use Rattle.lines.specs.Trees.{is_null, width}
+use Rattle.lines.specs.Trees.{width}
 use Rattle.stock.specs.declared.refusal.Refusal.{Refusal}
-use Rattle.unnest.specs.Emit.{Place, inside, breadth, chain, emit, emit_condition, apply_lines}
+use Rattle.unnest.specs.Emit.{Place, inside, breadth, chain, emit, emit_condition}
 use Rattle.unnest.specs.Kinds.{own_count, own_lines, apply_own, rows_of, wide_of, lines_by, InContext}
-use Rattle.unnest.specs.Rooms.{Emitted, TooLong, Puts}
+use Rattle.unnest.specs.Rooms.{Emitted, Puts}
 use Rattle.unnest.proofs.Adding.{emit_by, count_small}
 use Rattle.lines.proofs.Soundness.{short, own_length}
 use Rattle.lines.proofs.Growing.{node_is}

@@ -1,5 +1,5 @@
 -- What a flat plan carries may be known in one way only, so that a truncated fact gives the fact itself.
-use Rattle.std.proofs.Common.{◌≡◌, ℕ, ◌+◌, ◌-◌, ◌<◌, ◌≤◌, Bool, true, false, List, [], ◌∷◌, ◌++◌, length, get_or, take, refl}
+use Rattle.std.proofs.Common.{◌≡◌, ℕ, List, [], ◌++◌, refl}
 use mathlib.Core.Logic.{∥∥₁_elim}
 use native.Mathlib.Bridge.{le_prop}
 use native.Mathlib.Nat.{ℕ_set}
@@ -10,9 +10,9 @@ use Rattle.lines.specs.declared.line.Shape.TheVariants.{Leaf, One, Two, Tested, 
 use Rattle.lines.specs.declared.line.Side.{Side}
 use Rattle.lines.specs.declared.line.Side.TheVariants.{Column, Constant}
 use Rattle.lines.specs.Lines.{Node, rows_node, cond_node, build, grow}
-use Rattle.lines.specs.Marks.{Marks, own, SideIn, CondIn, FoldIn, Sound}
+use Rattle.lines.specs.Marks.{Marks, own, SideIn, CondIn, Sound}
 use Rattle.lines.specs.Shapes.{shape_of, line_at}
-use Rattle.lines.specs.Trees.{Cond, compare, is_null, not_of, unknown_of, and_of, or_of, Tree, table, unit, select, keep, extend, extend_truth, pad, match, semi_match, anti_match, union, diff, distinct, group, total, cross, outer, semi, anti, some, all, width}
+use Rattle.lines.specs.Trees.{Cond, compare, is_null, not_of, unknown_of, and_of, or_of, Tree, table, unit, select, keep, extend, extend_truth, pad, match, semi_match, anti_match, union, diff, distinct, group, total, cross, outer, semi, anti, some, all}
 use Rattle.unnest.specs.declared.plan.FlatPlan.{FlatPlan}
 use Rattle.unnest.specs.FlatPlans.{plan_lines, plan_widths}
 use Rattle.unnest.specs.Plans.{Plain, RowsBelow, ConditionBelow, Reads, Runnable, WellFormed}

@@ -1,10 +1,10 @@
 -- Lines put behind lines, and lines put behind those.
-use Rattle.std.proofs.Common.{◌≡◌, ℕ, ◌+◌, ◌-◌, ◌<◌, ◌≤◌, List, [], ◌∷◌, ◌++◌, length, get_or, take, pos, IsErrAnd, Ok, Err, Result, sym, refl, ap, ◌∙◌, subst, arith, MatchResult}
+use Rattle.std.proofs.Common.{◌≡◌, ℕ, ◌+◌, ◌-◌, ◌<◌, List, [], ◌∷◌, ◌++◌, length, get_or, take, pos, IsErrAnd, Ok, Err, Result, sym, ap, ◌∙◌, subst, arith}
 use Rattle.cells.specs.declared.sign.Sign.{Sign}
 use Rattle.lines.specs.declared.line.Side.TheVariants.{Column}
-use Rattle.std.proofs.lemmas.List.{append_assoc, append-nil, length-append, length-take-le, take_more, take_all}
+use Rattle.std.proofs.lemmas.List.{append_assoc, length-append, take_more, take_all}
 use Rattle.lines.specs.declared.line.Line.{Line}
-use Rattle.lines.specs.declared.line.Line.TheVariants.{Unit as UnitL, Select, Distinct, Compare, Not, Unknown as UnknownL}
+use Rattle.lines.specs.declared.line.Line.TheVariants.{Unit as UnitL, Select, Compare, Not, Unknown as UnknownL}
 use Rattle.stock.specs.declared.refusal.Refusal.{Refusal}
 use Rattle.unnest.specs.Emit.{chain, quant_lines, some_lines, all_lines}
 use Rattle.unnest.specs.Rooms.{Emitted, TooLong, Puts}

@@ -1,16 +1,15 @@
 -- Each kind of line, lifted.
-use Rattle.std.proofs.Common.{◌≡◌, ℕ, zero, suc, ◌+◌, ◌-◌, ◌*◌, ◌<◌, ◌≤◌, Bool, true, false, cond, not, ◌&&◌, ◌||◌, List, [], ◌∷◌, ◌++◌, map, length, take, drop, filter, sym, refl, ap, ◌∙◌, ap₂, add-zero, suc-add, zero-add, arith}
+use Rattle.std.proofs.Common.{◌≡◌, ℕ, ◌+◌, Bool, true, cond, not, ◌&&◌, List, [], ◌∷◌, ◌++◌, map, length, take, drop, filter, sym, refl, ap, ◌∙◌, ap₂, suc-add, zero-add, arith}
 use mathlib.Core.Bool.{and-true}
-use Rattle.std.specs.List.{flat_map, AllByRecursion}
-use Rattle.std.proofs.lemmas.List.{append_assoc, take_at, drop_at, length-append, take_all}
+use Rattle.std.specs.List.{AllByRecursion}
+use Rattle.std.proofs.lemmas.List.{append_assoc, take_at, take_all}
 use Rattle.std.proofs.ByRecursion.{All-weaker}
 use Rattle.cells.specs.Cells.{Row, same_row}
 use Rattle.lines.specs.Ops.{count, some_of, alike, match_rows, semi_rows, anti_rows}
 use Rattle.lines.specs.Trees.{empty}
-use Rattle.lines.proofs.Weights.{W, W_all, W_cong, W_append, W_map, W_kept, W_joined, W_plus, W_zero, W_cond, cond_and, count_W, all_of, Bag}
-use Rattle.lines.proofs.Joins.{kept_all}
-use Rattle.lines.proofs.Sameness.{same_eq, same_refl, same_split}
-use Rattle.unnest.proofs.Lifts.{Dom, Lifted, in_dom, core, core', pick, some_pick, lift_distinct}
+use Rattle.lines.proofs.Weights.{W, W_cong, W_append, W_map, W_kept, W_joined, W_plus, all_of}
+use Rattle.lines.proofs.Sameness.{same_split}
+use Rattle.unnest.proofs.Lifts.{Dom, Lifted, core, core', pick, some_pick}
 
 pub take_under : {A : Type 0} (d l : List A) (c n : ℕ) → length d ≡ c → take (c + n) (d ++ l) ≡ d ++ take n l
 take_under [] l c n e = rw (← e, zero-add)

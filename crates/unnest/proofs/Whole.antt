@@ -10,7 +10,6 @@ use Rattle.query.specs.declared.query.Query.{Query}
 use Rattle.query.specs.Queries.{lines_of, widths_of}
 use Rattle.query.proofs.Sounds.{sound_answer}
 use Rattle.stock.specs.declared.refusal.Refusal.{Refusal}
-use Rattle.stock.specs.declared.refusal.Refusal.TheVariants.{LongPlan}
 use Rattle.unnest.specs.Emit.{emit, outermost, flat_lines}
 use Rattle.unnest.specs.Kinds.{InContext}
 use Rattle.unnest.specs.Plans.{is_apply, WellFormed}

@@ -11,7 +11,7 @@ use Rattle.lines.specs.Trees.{Cond, compare, is_null, not_of, unknown_of, and_of
 use Rattle.lines.specs.Lines.{answer}
 use Rattle.lines.specs.declared.line.Line.{Line}
 use Rattle.lines.specs.declared.line.Line.TheVariants.{Table as TableL, Unit as UnitL, Select, Keep, Extend, ExtendTruth, Pad, Match, SemiMatch, AntiMatch, Union, Diff, Distinct, Group, Total, Compare, IsNull, Not, Unknown as UnknownL, And, Or}
-use Rattle.std.specs.Prelude.{◌≡◌, ℕ, ◌+◌, ◌-◌, List, [], ◌∷◌, ◌++◌, length, ℤ, pos}
+use Rattle.std.specs.Prelude.{ℕ, ◌+◌, ◌-◌, List, [], ◌∷◌, ◌++◌, length, ℤ, pos}
 
 -- the columns of a line's context
 abbrev pub breadth : Place → ℕ

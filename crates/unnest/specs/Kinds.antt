@@ -1,5 +1,4 @@
 -- What each kind of line adds behind its operands' flat lines.
-use Rattle.cells.specs.declared.sign.Sign.{Sign}
 use Rattle.lines.specs.declared.line.Line.{Line}
 use Rattle.lines.specs.declared.line.Line.TheVariants.{Table as TableL, Unit as UnitL, Select, Keep, Extend, ExtendTruth, Pad, Match, SemiMatch, AntiMatch, Union, Diff, Distinct, Group, Total, ApplyCross, ApplyOuter, ApplySemi, ApplyAnti, ApplySome, ApplyAll, Compare, IsNull, Not, Unknown as UnknownL, And, Or}
 use Rattle.lines.specs.declared.line.Shape.{Shape}

@@ -1,4 +1,4 @@
-use Rattle.std.proofs.Common.{refl, arith}
+use Rattle.std.proofs.Common.{refl}
 use Rattle.evaluate.proofs.Settling.{cleared}
 use Rattle.evaluate.proofs.settle.clear.Goals as goal
 

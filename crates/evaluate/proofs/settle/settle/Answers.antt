@@ -1,4 +1,4 @@
-use Rattle.std.proofs.Common.{◌*◌, inr, arith}
+use Rattle.std.proofs.Common.{inr, arith}
 use Rattle.evaluate.proofs.Settling.{settled}
 use Rattle.evaluate.proofs.settle.settle.Goals as goal
 

@@ -1,4 +1,4 @@
-use Rattle.std.proofs.Common.{sym, ap, ◌∙◌, arith}
+use Rattle.std.proofs.Common.{sym, ap, ◌∙◌}
 use Rattle.std.proofs.lemmas.List.{drop_all}
 use Rattle.movements.specs.Moves.{fault_from}
 use Rattle.movements.proofs.Rowed.{fault_more, fault_here, fault_is}

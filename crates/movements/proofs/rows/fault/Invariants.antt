@@ -1,4 +1,4 @@
-use Rattle.std.proofs.Common.{◌≡◌, length, drop}
+use Rattle.std.proofs.Common.{◌≡◌, drop}
 use Rattle.movements.specs.Moves.{fault_from}
 use Rattle.movements.proofs.rows.fault.Given as goal
 

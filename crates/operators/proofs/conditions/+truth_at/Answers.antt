@@ -1,4 +1,4 @@
-use Rattle.std.proofs.Common.{◌≡◌, [], get_or, sym, refl, ap, ◌∙◌, ap₂}
+use Rattle.std.proofs.Common.{[], get_or, refl, ap, ◌∙◌, ap₂}
 use Rattle.cells.specs.Cells.{null_cell, compare_cells}
 use Rattle.cells.specs.Truths.{not3, and3, or3, unknown3, truth_of}
 use Rattle.lines.specs.Lines.{build, grow}

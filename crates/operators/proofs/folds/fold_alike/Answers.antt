@@ -1,7 +1,6 @@
-use Rattle.std.proofs.Common.{◌≡◌, ℕ, ◌+◌, ◌-◌, ◌*◌, ◌<◌, sym, ap, ◌∙◌, subst, arith}
+use Rattle.std.proofs.Common.{◌≡◌, ℕ, ◌+◌, ◌-◌, ◌<◌, ◌∙◌, subst, arith}
 use Rattle.operators.specs.Places.{row_at}
 use Rattle.operators.specs.Folds.{Within, result_of}
-use Rattle.operators.proofs.Stack.{inside}
 use Rattle.operators.proofs.Filtering.{next_front}
 use Rattle.operators.proofs.Folding.{fold_none, fold_more, fold_all, within_none, within_wide, addable_at}
 use Rattle.operators.proofs.folds.fold_alike.Goals as goal

@@ -1,4 +1,4 @@
-use Rattle.std.proofs.Common.{◌+◌, ◌<◌, le-mul_of_pos_right, arith}
+use Rattle.std.proofs.Common.{◌+◌, arith}
 use Rattle.operators.specs.Places.{rows_in}
 use Rattle.operators.specs.Folds.{grouped}
 use Rattle.operators.proofs.Stack.{start, turn, turn_over, done}

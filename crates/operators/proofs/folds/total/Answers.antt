@@ -1,4 +1,4 @@
-use Rattle.std.proofs.Common.{◌≡◌, [], ◌∷◌, ◌∙◌, subst, arith}
+use Rattle.std.proofs.Common.{[], ◌∷◌, ◌∙◌, subst, arith}
 use Rattle.cells.specs.declared.cell.Cell.{Cell}
 use Rattle.operators.specs.Laid.{Put}
 use Rattle.operators.specs.Places.{rows_in}

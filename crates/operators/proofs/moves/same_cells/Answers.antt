@@ -1,4 +1,4 @@
-use Rattle.std.proofs.Common.{◌≡◌, sym, refl, ◌∙◌, arith}
+use Rattle.std.proofs.Common.{sym, refl, arith}
 use Rattle.operators.proofs.Puts.{same_more, same_stops}
 use Rattle.operators.proofs.moves.same_cells.Goals as goal
 

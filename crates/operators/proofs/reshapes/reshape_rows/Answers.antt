@@ -1,4 +1,4 @@
-use Rattle.std.proofs.Common.{sym, arith}
+use Rattle.std.proofs.Common.{arith}
 use Rattle.operators.specs.Steps.{reshaped, reshaped_width}
 use Rattle.operators.proofs.Stack.{inside, start}
 use Rattle.operators.proofs.Reshaping.{one, few_cells, map_over, one_turn, one_done}

@@ -1,4 +1,4 @@
-use Rattle.std.proofs.Common.{◌≡◌, ℕ, ◌+◌, ◌*◌, ◌<◌, ◌≤◌, [], length, get_or, sym, ap, ◌∙◌, subst, ap₂, arith}
+use Rattle.std.proofs.Common.{◌≡◌, ℕ, ◌+◌, ◌*◌, [], get_or, subst, ap₂, arith}
 use Rattle.stock.specs.Tables.{rows_at, width_of, rows_of}
 use Rattle.operators.specs.Laid.{Put}
 use Rattle.operators.proofs.Stack.{inside, laid_none}

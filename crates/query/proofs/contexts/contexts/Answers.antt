@@ -1,7 +1,6 @@
 use Rattle.std.proofs.Common.{◌+◌, ◌-◌, ◌*◌, ◌≤◌, length, sym, refl, ap, ◌∙◌, inl, inr, arith}
 use Rattle.std.proofs.lemmas.List.{get_or_past}
 use Rattle.std.proofs.lemmas.Bool.{cases_lt}
-use Rattle.query.specs.Contexts.{first_of}
 use Rattle.query.specs.Working.{wider_by, listed}
 use Rattle.query.proofs.Fitting.{zeros}
 use Rattle.query.proofs.Handing.{under_end, under_step, handed_small}

@@ -1,4 +1,4 @@
-use Rattle.std.proofs.Common.{sym, ◌∙◌, arith}
+use Rattle.std.proofs.Common.{sym, ◌∙◌}
 use Rattle.shelf.proofs.Checking.{stored_more, stored_here}
 use Rattle.shelf.proofs.check.all_stored.Goals as goal
 

@@ -1,4 +1,4 @@
-use Rattle.std.proofs.Common.{◌≡◌, ◌+◌, ◌-◌, [], ◌∷◌, length, Err, sym, refl, ap, ◌∙◌, ap₂, arith}
+use Rattle.std.proofs.Common.{◌+◌, ◌-◌, [], ◌∷◌, Err, sym, ◌∙◌, ap₂, arith}
 use Rattle.lines.specs.declared.line.Line.TheVariants.{Distinct}
 use Rattle.lines.specs.declared.line.Shape.TheVariants.{One, Two, Tested, Inner}
 use Rattle.lines.specs.Lines.{as_cond, at, grow}

@@ -1,4 +1,4 @@
-use Rattle.std.proofs.Common.{◌≡◌, [], ◌∷◌, sym, refl, arith}
+use Rattle.std.proofs.Common.{[], ◌∷◌, sym, arith}
 use Rattle.lines.specs.declared.line.Line.TheVariants.{Not, Unknown, And, Or}
 use Rattle.lines.specs.Lines.{build, grow, at, as_cond}
 use Rattle.query.specs.Queries.{lines_of, widths_of}

@@ -1,5 +1,5 @@
 use Rattle.std.proofs.Common.{◌≡◌, ◌-◌, refl, arith}
-use Rattle.movements.proofs.Shift.{Shifted, shifted_none, shifted_more, shifted_all}
+use Rattle.movements.proofs.Shift.{shifted_none, shifted_more, shifted_all}
 use Rattle.movements.proofs.bounded.Bounded.remove.Goals as goal
 
 pub loop-k-init : goal.loop-k-init

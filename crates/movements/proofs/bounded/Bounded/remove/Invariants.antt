@@ -1,4 +1,4 @@
-use Rattle.std.proofs.Common.{◌≡◌, ◌-◌}
+use Rattle.std.proofs.Common.{◌≡◌}
 use Rattle.movements.proofs.Shift.{Shifted}
 use Rattle.movements.proofs.bounded.Bounded.remove.Given as goal
 

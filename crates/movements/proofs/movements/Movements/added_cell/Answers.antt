@@ -1,6 +1,6 @@
-use Rattle.std.proofs.Common.{◌≡◌, ◌<◌, ◌≤◌, [], length, get_or, take, sym, ap, ◌∙◌, arith}
+use Rattle.std.proofs.Common.{◌<◌, [], get_or, take, sym, ap, ◌∙◌, arith}
 use Rattle.movements.specs.Moves.{added_rows}
-use Rattle.stock.specs.Tables.{width_of, rows_at}
+use Rattle.stock.specs.Tables.{width_of}
 use Rattle.cells.specs.declared.cell.Cell.TheVariants.{Null}
 use Rattle.movements.specs.Shown.{items_of}
 use Rattle.movements.specs.Moving.{nth_added, added_rows_short, length_added_rows}

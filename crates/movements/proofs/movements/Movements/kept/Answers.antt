@@ -1,5 +1,5 @@
 use Rattle.std.proofs.Common.{◌≡◌, length, take, sym, ap, ◌∙◌, arith}
-use Rattle.std.proofs.lemmas.List.{take_all, length-take-le}
+use Rattle.std.proofs.lemmas.List.{length-take-le}
 use Rattle.stock.specs.Tables.{rows_at}
 use Rattle.movements.specs.Moves.{remaining, fewer}
 use Rattle.movements.specs.Moving.{remaining_more, length_take_out, take_whole}

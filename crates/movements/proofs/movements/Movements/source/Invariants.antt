@@ -1,4 +1,4 @@
-use Rattle.std.proofs.Common.{◌≡◌, ◌+◌, ◌≤◌, [], length, get_or, take}
+use Rattle.std.proofs.Common.{◌≡◌, ◌+◌, ◌≤◌, [], get_or, take}
 use Rattle.stock.specs.Tables.{rows_at}
 use Rattle.movements.specs.Moves.{remaining}
 use Rattle.movements.proofs.movements.Movements.source.Given as goal

@@ -1,4 +1,4 @@
-use Rattle.std.proofs.Common.{[], get_or, sym, ap, ⊎_elim, arith}
+use Rattle.std.proofs.Common.{get_or, sym, ap, ⊎_elim, arith}
 use Rattle.cells.specs.declared.cell.Cell.TheVariants.{Null}
 use Rattle.movements.specs.Shown.{items_of}
 use Rattle.movements.specs.Moving.{cell_moved_past, cell_moved_over, cell_moved_first, cell_moved_second}

@@ -1,7 +1,6 @@
-use Rattle.std.proofs.Common.{◌≡◌, ◌+◌, ◌≤◌, length, take, sym, ap, ◌∙◌, arith}
+use Rattle.std.proofs.Common.{◌≡◌, length, take, sym, arith}
 use Rattle.std.proofs.lemmas.List.{length-take-le}
 use Rattle.stock.specs.Tables.{rows_at}
-use Rattle.movements.specs.Moves.{remaining}
 use Rattle.movements.specs.Shown.{items_of}
 use Rattle.movements.specs.Moving.{rows_moved, rows_moved_past, length_remaining_le, added_count_le}
 use Rattle.stock.specs.Tabled.{few_rows}

@@ -1,5 +1,4 @@
-use Rattle.std.proofs.Common.{◌≡◌, Some, sym, refl, subst}
-use Rattle.stock.specs.Tables.{Lawful}
+use Rattle.std.proofs.Common.{sym, subst}
 use Rattle.movements.specs.Moving.{moved_lawful}
 use Rattle.movements.specs.Shown.{items_of, shown}
 use Rattle.session.specs.Agrees.{Asks}

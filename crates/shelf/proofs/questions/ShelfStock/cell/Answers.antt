@@ -1,6 +1,6 @@
-use Rattle.std.proofs.Common.{◌≡◌, ◌+◌, ◌*◌, ◌<◌, ◌≤◌, [], length, get_or, sym, ap, ◌∙◌, arith}
+use Rattle.std.proofs.Common.{[], get_or, sym, ap, arith}
 use Rattle.std.proofs.lemmas.List.{get_or_past}
-use Rattle.stock.specs.Tables.{no_table, rows_of, width_of, rows_at}
+use Rattle.stock.specs.Tables.{rows_at}
 use Rattle.cells.specs.declared.cell.Cell.TheVariants.{Null}
 use Rattle.stock.specs.Tabled.{row_long}
 use Rattle.shelf.specs.Cut.{shelved}

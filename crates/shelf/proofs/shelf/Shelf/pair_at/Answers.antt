@@ -1,4 +1,4 @@
-use Rattle.std.proofs.Common.{get_or, sym, ap, ◌∙◌}
+use Rattle.std.proofs.Common.{sym, ap, ◌∙◌}
 use Rattle.std.proofs.lemmas.List.{get_or_past}
 use Rattle.stock.specs.Tables.{width_of, rows_of}
 use Rattle.shelf.specs.Cutting.{is_cut, no_cut, width_cut, rows_cut_at}

@@ -1,5 +1,5 @@
-use Rattle.std.proofs.Common.{◌≡◌, ◌+◌, ◌*◌, ◌<◌, ◌≤◌, length, get_or, take, sym, ap, ◌∙◌, arith}
-use Rattle.shelf.specs.Cutting.{offset, offset_more, in_pairs, unfaulted, within}
+use Rattle.std.proofs.Common.{◌+◌, ◌*◌, ◌<◌, length, get_or, sym, ap, ◌∙◌, arith}
+use Rattle.shelf.specs.Cutting.{offset_more, in_pairs, unfaulted, within}
 use Rattle.shelf.proofs.shelf.Shelf.start.Goals as goal
 
 pub offset_bounds-self-i : goal.offset_bounds-self-i

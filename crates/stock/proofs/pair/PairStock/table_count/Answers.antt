@@ -1,4 +1,4 @@
-use Rattle.std.proofs.Common.{arith, rules}
+use Rattle.std.proofs.Common.{arith}
 use Rattle.stock.specs.Tabled.{length_paired}
 use Rattle.stock.proofs.pair.PairStock.table_count.Goals as goal
 

@@ -1,4 +1,4 @@
-use Rattle.std.proofs.Common.{◌<◌, [], get_or, sym, ap, ◌∙◌, arith, rules}
+use Rattle.std.proofs.Common.{◌<◌, ap, arith}
 use Rattle.cells.specs.declared.cell.Cell.TheVariants.{Number}
 use Rattle.std.proofs.lemmas.Int.{ints}
 use Rattle.stock.specs.Tabled.{unruled, get_or_marks}
