@@ -10,7 +10,7 @@ pub fn answered(rt: &impl Abort, answer: Result<usize, Refusal>, n: usize) -> Re
         Ok(m) => {
             assert_eq!(rt; m, n);
             Ok(())
-        },
+        }
         Err(_) => Err(Fail::new("refused")),
     }
 }
@@ -26,7 +26,7 @@ pub fn refused(
         Err(e) => {
             assert_eq!(rt; (e.number(), e.value()), (number, value));
             Ok(())
-        },
+        }
     }
 }
 

@@ -36,7 +36,7 @@ right_from j (c ∷ cs) e =
     (λ n. let k = cond-false (stored c) (fault_from (suc j) cs) (Some j) n in let z : ◌≡◌ {A = ℕ} 0 1 = cc in absurd (omega arith))
     (cases_Bool (stored c))
 
--- a row with nothing row-fault
+-- a row in which row_fault finds nothing
 pub right_row : (w : ℕ) (row : List Cell) → row_fault w row ≡ None → (length row ≡ w) × (every stored row ≡ true)
 right_row w row e =
     ⊎_elim

@@ -148,8 +148,8 @@ get_or_moved_from s t j ms hs [] e l = absurd (omega arith)
 get_or_moved_from s zero j ms hs (x ∷ ts) e l = let k : s ≡ j = omega arith in ap (λ n. one_moved n ms hs x) k
 get_or_moved_from s (suc t) j ms hs (x ∷ ts) e l = get_or_moved_from (suc s) t j ms hs ts (omega arith) (omega arith)
 
-pub get_d_moved : (t : ℕ) (ms : List Added) (hs : List Hidden) (ts : List Table) → t < length ts → slice_index_or (moved ms hs ts) t no_table ≡ one_moved t ms hs (slice_index_or ts t no_table)
-get_d_moved t ms hs ts l = get_or_moved_from 0 t t ms hs ts (omega arith) l
+pub get_or_moved : (t : ℕ) (ms : List Added) (hs : List Hidden) (ts : List Table) → t < length ts → slice_index_or (moved ms hs ts) t no_table ≡ one_moved t ms hs (slice_index_or ts t no_table)
+get_or_moved t ms hs ts l = get_or_moved_from 0 t t ms hs ts (omega arith) l
 
 pub get_or_moved_past : (t : ℕ) (ms : List Added) (hs : List Hidden) (ts : List Table) → length ts ≤ t → slice_index_or (moved ms hs ts) t no_table ≡ no_table
 get_or_moved_past t ms hs ts l = let e = length_moved ms hs ts in get_or_past (moved ms hs ts) t no_table (omega arith)
@@ -208,12 +208,12 @@ module _ (t : ℕ) (ms : List Added) (hs : List Hidden) (ts : List Table) where
   pub width_moved : width_of (moved ms hs ts) t ≡ width_of ts t
   width_moved =
       ⊎_elim
-      (λ l. ap (λ (x : Table). x.width) (get_d_moved t ms hs ts l))
+      (λ l. ap (λ (x : Table). x.width) (get_or_moved t ms hs ts l))
       (λ k. ap (λ (x : Table). x.width) (get_or_moved_past t ms hs ts k ∙ sym (get_or_past ts t no_table k)))
       (cases_lt t (length ts))
 
   pub rows_moved : t < length ts → rows_of (moved ms hs ts) t ≡ min 65535 (length (remaining t hs (rows_at ts t)) + added_count t ms)
-  rows_moved l = ap (λ (x : Table). length x.rows) (get_d_moved t ms hs ts l) ∙ length-take 65535 (remaining t hs (rows_at ts t) ++ added_rows t (width_of ts t) ms) ∙ ap (min 65535) (length-append (remaining t hs (rows_at ts t)) (added_rows t (width_of ts t) ms) ∙ ap (λ n. length (remaining t hs (rows_at ts t)) + n) (length_added_rows t (width_of ts t) ms))
+  rows_moved l = ap (λ (x : Table). length x.rows) (get_or_moved t ms hs ts l) ∙ length-take 65535 (remaining t hs (rows_at ts t) ++ added_rows t (width_of ts t) ms) ∙ ap (min 65535) (length-append (remaining t hs (rows_at ts t)) (added_rows t (width_of ts t) ms) ∙ ap (λ n. length (remaining t hs (rows_at ts t)) + n) (length_added_rows t (width_of ts t) ms))
 
   pub rows_moved_past : length ts ≤ t → rows_of (moved ms hs ts) t ≡ 0
   rows_moved_past l = ap (λ (x : Table). length x.rows) (get_or_moved_past t ms hs ts l)
@@ -223,14 +223,14 @@ module _ (t p c : ℕ) (ms : List Added) (hs : List Hidden) (ts : List Table) wh
   cell_moved_past l = ap (λ (x : Table). get_or (slice_index_or x.rows p []) c Null) (get_or_moved_past t ms hs ts l)
 
   pub cell_moved_over : 65535 ≤ p → t < length ts → cell_of (moved ms hs ts) t p c ≡ Null
-  cell_moved_over h l = ap (λ (x : Table). get_or (slice_index_or x.rows p []) c Null) (get_d_moved t ms hs ts l) ∙ ap (λ r. get_or r c Null) (get_or_past (take 65535 (remaining t hs (rows_at ts t) ++ added_rows t (width_of ts t) ms)) p [] (simp length-take (omega arith)))
+  cell_moved_over h l = ap (λ (x : Table). get_or (slice_index_or x.rows p []) c Null) (get_or_moved t ms hs ts l) ∙ ap (λ r. get_or r c Null) (get_or_past (take 65535 (remaining t hs (rows_at ts t) ++ added_rows t (width_of ts t) ms)) p [] (simp length-take (omega arith)))
 
   pub cell_moved_first : t < length ts → p < 65535 → p < length (remaining t hs (rows_at ts t)) → cell_of (moved ms hs ts) t p c ≡ slice_index_or (slice_index_or (remaining t hs (rows_at ts t)) p []) c Null
   cell_moved_first l h k =
-      ap (λ (x : Table). get_or (slice_index_or x.rows p []) c Null) (get_d_moved t ms hs ts l)
+      ap (λ (x : Table). get_or (slice_index_or x.rows p []) c Null) (get_or_moved t ms hs ts l)
       ∙ ap (λ r. get_or r c Null) (get_or-take 65535 (remaining t hs (rows_at ts t) ++ added_rows t (width_of ts t) ms) p [] h ∙ get_or_append_left (remaining t hs (rows_at ts t)) (added_rows t (width_of ts t) ms) [] p k)
 
   pub cell_moved_second : t < length ts → p < 65535 → length (remaining t hs (rows_at ts t)) ≤ p → cell_of (moved ms hs ts) t p c ≡ slice_index_or (slice_index_or (added_rows t (width_of ts t) ms) (p - length (remaining t hs (rows_at ts t))) []) c Null
   cell_moved_second l h k =
-      ap (λ (x : Table). get_or (slice_index_or x.rows p []) c Null) (get_d_moved t ms hs ts l)
+      ap (λ (x : Table). get_or (slice_index_or x.rows p []) c Null) (get_or_moved t ms hs ts l)
       ∙ ap (λ r. get_or r c Null) (get_or-take 65535 (remaining t hs (rows_at ts t) ++ added_rows t (width_of ts t) ms) p [] h ∙ get_or-append_right (remaining t hs (rows_at ts t)) (added_rows t (width_of ts t) ms) (length (remaining t hs (rows_at ts t))) p [] refl k)

@@ -53,7 +53,7 @@ either_at (a ∷ x) [] k h = sym (ap (λ v. get_or (a ∷ x) k false || v) (get_
 either_at (a ∷ x) (b ∷ y) zero h = refl
 either_at (a ∷ x) (b ∷ y) (suc k) h = either_at x y k (omega arith)
 
--- a loop that works out either-mark x y, column by column
+-- a loop that works out either_mark x y, column by column
 module _ (all next x y : List Bool) (k : ℕ) (inv : all ≡ take k (either_mark x y)) (h : k < length x) where
   pub either_more : (b : Bool) → b ≡ (get_or x k false || get_or y k false) → next ≡ all ++ (b ∷ []) → next ≡ take (k + 1) (either_mark x y)
   either_more b e f = f ∙ rw (inv, e, sym (either_at x y k h)) (sym (take_more (either_mark x y) k false (omega (arith, either_length x y))))

@@ -20,7 +20,7 @@ pub fn passes(rt: &impl Abort, lines: &[Line], width: usize) -> Result<(), Fail>
         Err(refusal) => {
             assert_eq!(rt; refusal.number(), 0, "refused");
             Ok(())
-        },
+        }
     }
 }
 
@@ -30,7 +30,7 @@ pub fn refused(rt: &impl Abort, lines: &[Line], number: usize, value: usize) -> 
         Ok(query) => {
             assert_eq!(rt; query.size(), 0, "accepted");
             Ok(())
-        },
+        }
         Err(refusal) => {
             assert_eq!(rt; refusal.number(), number);
             assert_eq!(rt; refusal.value(), value);

@@ -11,7 +11,7 @@ use Rattle.movements.specs.Shown.{items_of, shown, rows_remaining, Uncut, Put, T
 use Rattle.movements.specs.declared.movements.Movements.{Movements}
 use Rattle.session.specs.Model.{Model, ModelTable, open_table, tables_of, shown_tables, with_added, with_taken, cleared}
 use Rattle.session.specs.Requests.{Request, lay, unnest, add, withdraw, clear, cause, changed, step, unless, add_refusal, withdraw_refusal, unnest_refusal, flat_of, with_tables}
-use Rattle.session.specs.Replies.{told, accepted, answer_due, lines_of as count-lines}
+use Rattle.session.specs.Replies.{told, accepted, answer_due, lines_of as count_lines}
 use Rattle.session.specs.Tracks.{PartsTrack, Tracks}
 use Rattle.session.specs.Agrees.{Agrees, Steps, Unnests, UnnestedBy, unnest_cause, Adds, Withdraws, with_layer, with_plan, with_query}
 use Rattle.session.specs.declared.calls.Answer.{Answer}
@@ -210,7 +210,7 @@ module _ {X : Type 0} (tables : X → List Table) (s : Session X) where
         plan_fits = u.widths ∙ here q is m ag;
         law = subst (λ o. PlanLaw ws o (flat_of (flat_lines (widths (tables_of m))) m.query)) (sym (lines q is m ag)) (subst (PlanLaw ws (Some (lines_of q))) (sym plan) law);
       })
-      (ap Count n ∙ sym (ap (λ o. Count (count-lines o)) plan))
+      (ap Count n ∙ sym (ap (λ o. Count (count_lines o)) plan))
 
   pub unnest_long : (q : Query) (e : Refusal) → s.query ≡ Some q → Long.Refused q e → Steps tables s s unnest (Refused e)
   unnest_long q e is l m ag =

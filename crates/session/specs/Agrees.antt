@@ -21,7 +21,7 @@ use Rattle.evaluate.specs.Running.{Evaluates}
 use Rattle.session.specs.Model.{Model}
 use Rattle.session.specs.Plans.{standing_lines, standing_plan, Fits, PlanFits, PlanLaw}
 use Rattle.session.specs.Requests.{Request, step}
-use Rattle.session.specs.Replies.{Reply, answer_due, reply_due, lines_of as count-lines}
+use Rattle.session.specs.Replies.{Reply, answer_due, reply_due, lines_of as count_lines}
 use Rattle.session.specs.Tracks.{Tracks}
 use Rattle.session.specs.declared.calls.Answer.{Answer}
 use Rattle.session.specs.declared.session.Session.{Session}
@@ -78,7 +78,7 @@ abbrev pub Unnests : {X : Type 0} → Session X → Session X → Result ℕ Ref
 Unnests s n r = MatchResult r
     (λ k. (unnest_cause s.query ≡ None)
     × UnnestedBy s.query n.plan
-    × (k ≡ count-lines (standing_plan n.plan))
+    × (k ≡ count_lines (standing_plan n.plan))
     × (n.query ≡ s.query)
     × (n.layer ≡ s.layer))
     (λ e. (unnest_cause s.query ≡ Some e) × (n ≡ s))

@@ -69,7 +69,7 @@ pub fn answered(rt: &impl Abort, answer: Result<usize, Refusal>, n: usize) -> Re
         Ok(m) => {
             assert_eq!(rt; m, n);
             Ok(())
-        },
+        }
         Err(_) => Err(Fail::new("refused")),
     }
 }
@@ -85,7 +85,7 @@ pub fn refused(
         Err(e) => {
             assert_eq!(rt; (e.number(), e.value()), (number, value));
             Ok(())
-        },
+        }
     }
 }
 
@@ -99,7 +99,7 @@ pub fn sized(
         Ok(counts) => {
             assert_eq!(rt; counts, (n, w));
             Ok(())
-        },
+        }
         Err(_) => Err(Fail::new("refused")),
     }
 }
@@ -115,7 +115,7 @@ pub fn unsized_by(
         Err(e) => {
             assert_eq!(rt; (e.number(), e.value()), (number, value));
             Ok(())
-        },
+        }
     }
 }
 

@@ -4,7 +4,7 @@ ghost use Rattle.lines.specs.Lines.{as_cond, at, grow};
 ghost use Rattle.lines.specs.Shapes.{tree_at};
 ghost use Rattle.query.specs.Queries.{lines_of, widths_of};
 ghost use Rattle.unnest.specs.Rooms.{laid, Puts};
-ghost use Rattle.unnest.specs.Emit.{breadth, emit_condition, emit as emit-lines};
+ghost use Rattle.unnest.specs.Emit.{breadth, emit_condition, emit as emit_lines};
 ghost use Rattle.unnest.specs.Kinds.{InContext};
 
 use crate::kinds::{lay_apply, lay_own};
@@ -60,7 +60,7 @@ pub(crate) fn emit(
 ) -> Result<usize, Refusal>
     requires within { line < length (lines_of query.now) }
     requires context { InContext (widths_of query.now) (breadth place) (tree_at (lines_of query.now) line) }
-    ensures { Puts (laid plan.old) (laid plan.new) (emit-lines (widths_of query.now) (tree_at (lines_of query.now) line) place (length (laid plan.old))) result }
+    ensures { Puts (laid plan.old) (laid plan.new) (emit_lines (widths_of query.now) (tree_at (lines_of query.now) line) place (length (laid plan.old))) result }
 {
     let kind = query.line(line);
     match kind.shape() {

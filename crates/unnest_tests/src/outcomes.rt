@@ -134,10 +134,10 @@ pub fn unnests(rt: &impl Abort, lines: &[Line], expected: &[Line]) -> Result<(),
                 assert_eq!(rt; refusal.number(), 0, "no plan");
                 Ok(())
             },
-        },
+        }
         Err(refusal) => {
             assert_eq!(rt; refusal.number(), 0, "not accepted");
             Ok(())
-        },
+        }
     }
 }

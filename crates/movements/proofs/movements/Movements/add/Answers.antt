@@ -3,7 +3,7 @@ use Rattle.stock.specs.Tables.{Table, width_of, rows_of, rows_at}
 use Rattle.stock.specs.Tabled.{small_width}
 use Rattle.movements.specs.Moves.{moved, added_count}
 use Rattle.movements.specs.Shown.{items_of, shown, rows_remaining}
-use Rattle.movements.specs.Moving.{moved_lawful, width_moved, length_moved, rows_moved, get_d_moved}
+use Rattle.movements.specs.Moving.{moved_lawful, width_moved, length_moved, rows_moved, get_or_moved}
 use Rattle.movements.proofs.Rowed.{right_row, add_none}
 use Rattle.movements.proofs.Changes.{added_shows, rows_changed}
 use Rattle.movements.proofs.Rooms.{add_room}
@@ -33,7 +33,7 @@ returns g c =
     let l = length_moved ms hs base in
     let in' : t < length base = omega arith in
     let few = rows_moved t ms hs base in' in
-    let here = ap (λ (x : Table). length x.rows) (get_d_moved t ms hs base in') in
+    let here = ap (λ (x : Table). length x.rows) (get_or_moved t ms hs base in') in
     let after = c.push.ensures.items in
     let shows = ap (λ x. moved x hs base) after ∙ added_shows ms _ hs t base row refl in' front (omega arith) in
     let rows = ap (λ x. rows_of x t) shows ∙ ap length (rows_changed (λ rs. rs ++ row ∷ []) ts t (omega arith)) ∙ length-append (rows_at ts t) (row ∷ []) in
