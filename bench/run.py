@@ -1,7 +1,7 @@
 #!/usr/bin/env python3
 """Times the benchmark's two queries beside sqlite3's in-memory database, on the same rows and in one run.
 
-Build first:    rt check benchmark
+Build first:    (cd crates/benchmark && rt run)
 Then:           bench/run.py [REPEATS [ROUNDS]]     (50 repeats and 20 rounds, where not given)
 
 Each round runs the program and then each SQL query so many times and takes the mean; of the rounds the best counts, on both sides. The
@@ -17,7 +17,7 @@ import subprocess
 import sys
 import time
 
-PROGRAM = pathlib.Path(__file__).resolve().parent.parent / "target/bin/benchmark"
+PROGRAM = pathlib.Path(__file__).resolve().parent.parent / "crates/benchmark/out/benchmark"
 LINE = re.compile(r"(\d+) kits, \d+ shipments, (\w+): (\d+) rows, (\d+) cells, (\d+) ns, (\d+) ns with no cell to spare")
 
 SQL = {
@@ -89,7 +89,7 @@ def main():
     repeats = int(sys.argv[1]) if len(sys.argv) > 1 else 50
     rounds = int(sys.argv[2]) if len(sys.argv) > 2 else 20
     if not PROGRAM.exists():
-        sys.exit("no program: rt check benchmark builds it")
+        sys.exit("no program: (cd crates/benchmark && rt run) builds it")
     first = ours(1)
     compare_answers(first)
     results = [round_of(repeats) for _ in range(rounds)]

@@ -5,7 +5,7 @@ Every query goes through the program `console`, both asked and run, and through 
 often. Besides, everything that the console answers is compared with a model of the rules (model.py): the width, the flat plan, the rows in
 their order, and the exact cells that an answer needs, with the line at which fewer run out. docs/COMPARISON.md says more.
 
-Build first:    rt check console
+Build first:    (cd crates/console && rt run < /dev/null)
 Install:        apt-get install postgresql
 A short run:    tests/compare.py --seed 1 --queries 1500
 A long one:     tests/compare.py --queries 20000
@@ -31,7 +31,7 @@ from tables import Layer
 from tally import Tally
 from unnesting import unnested
 
-CONSOLE = pathlib.Path(__file__).resolve().parent.parent / "target/bin/console"
+CONSOLE = pathlib.Path(__file__).resolve().parent.parent / "crates/console/out/console"
 # a query beyond these is drawn again: rows laid while asking, cells standing while running
 ASKING_BOUND = 40000
 RUNNING_BOUND = 150000
@@ -293,7 +293,7 @@ def options():
     parser.add_argument("--queries", type=int, default=1500, help="how many queries are compared (default: %(default)s)")
     parser.add_argument("--batch", type=int, default=10, help="how many queries are put to one stock, in one session (default: %(default)s)")
     parser.add_argument("--only", type=int, metavar="SESSION", help="only the session of this number, as a failure names it")
-    parser.add_argument("--console", type=pathlib.Path, default=CONSOLE, help="the program console (default: target/bin/console)")
+    parser.add_argument("--console", type=pathlib.Path, default=CONSOLE, help="the program console (default: crates/console/out/console)")
     return parser.parse_args()
 
 
@@ -317,7 +317,7 @@ def compare_all(server, asked_for, seed):
 def main():
     asked_for = options()
     if not asked_for.console.exists():
-        return f"{asked_for.console} is not there. To build it: rt check console"
+        return f"{asked_for.console} is not there. To build it: (cd crates/console && rt run < /dev/null)"
     seed = random.SystemRandom().randrange(10**9) if asked_for.seed is None else asked_for.seed
     began = time.monotonic()
     signal.signal(signal.SIGTERM, lambda *_: sys.exit("ended from outside"))

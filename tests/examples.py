@@ -1,7 +1,7 @@
 #!/usr/bin/env python3
 """Runs every script under examples/ through the console and holds what it writes to the stored answers.
 
-Build first:    rt check console
+Build first:    (cd crates/console && rt run < /dev/null)
 Then:           tests/examples.py
 """
 import pathlib
@@ -9,7 +9,7 @@ import subprocess
 import sys
 
 ROOT = pathlib.Path(__file__).resolve().parent.parent
-CONSOLE = ROOT / "target/bin/console"
+CONSOLE = ROOT / "crates/console/out/console"
 
 
 def answers(script):
@@ -19,7 +19,7 @@ def answers(script):
 
 def main():
     if not CONSOLE.exists():
-        sys.exit("no program: rt check console builds it")
+        sys.exit("no program: (cd crates/console && rt run < /dev/null) builds it")
     scripts = sorted((ROOT / "examples").glob("*.txt"))
     wrong = [s.name for s in scripts if answers(s) != s.with_suffix(".out").read_bytes()]
     for name in wrong:
