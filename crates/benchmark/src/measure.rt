@@ -9,82 +9,72 @@ use stock::refusal::Refusal;
 use stock::stock::Stock;
 use unnest::plan::FlatPlan;
 
-fn plan_of<S: Stock>(stock: &S, lines: &[Line]) -> Result<FlatPlan, Refusal> {
+// The flat plan of a query, and how many rows it gives.
+fn planned<S: Stock>(
+    stock: &S,
+    lines: &[Line],
+    cells: &mut [Cell],
+) -> Result<(FlatPlan, usize), Refusal> {
     let query = Query::check(lines, stock)?;
-    FlatPlan::unnest(&query)
+    let plan = FlatPlan::unnest(&query)?;
+    let (rows, _) = run(stock, &plan, cells)?;
+    Ok((plan, rows))
 }
 
-// Whether so many of the cells do not suffice.
-fn run_out<S: Stock>(stock: &S, plan: &FlatPlan, cells: &mut [Cell], lent: usize) -> bool {
-    lent <= cells.len() && run(stock, plan, &mut cells[0..lent]).is_err()
+// A plan over a stock, and all the cells that may be lent to its runs.
+#[derive(Drop)]
+struct Trial<'a, S> {
+    stock: &'a S,
+    plan: &'a FlatPlan,
+    cells: &'a mut [Cell],
 }
 
-// The least count of cells that suffices, where no cell does not and all do: one more than the greatest that does not, found bit by bit.
-fn need<S: Stock>(stock: &S, plan: &FlatPlan, cells: &mut [Cell]) -> usize {
-    let mut short = 0usize;
-    for bit in (0..16u32).rev() {
-        let lent = short.saturating_add(1 << bit);
-        if run_out(stock, plan, cells, lent) {
-            short = lent;
+impl<'a, S: Stock> Trial<'a, S> {
+    // Whether so many of the cells suffice. More than there are do, since all of them do.
+    fn suffices(&mut self, lent: usize) -> bool {
+        if lent > self.cells.len() {
+            return true;
         }
+        let cells = &mut self.cells[..lent];
+        run(self.stock, self.plan, cells).is_ok()
     }
-    short.saturating_add(1)
-}
 
-// Nanoseconds per call.
-fn time<S: Stock>(
-    rt: &HostRuntime,
-    stock: &S,
-    plan: &FlatPlan,
-    cells: &mut [Cell],
-    repeats: u32,
-) -> io::Result<u128> {
-    let start = Instant::now(rt)?;
-    for _ in 0..repeats {
-        let _ = run(stock, plan, cells);
-    }
-    let nanos = start.elapsed(rt)?.as_nanos();
-    Ok(nanos / repeats.max(1) as u128)
-}
-
-fn refused(rt: &HostRuntime, refusal: Refusal) -> io::Result<()> {
-    let number = refusal.number();
-    let value = refusal.value();
-    println!(rt; "refused with number {number}, value {value}")
-}
-
-// The time over all the cells, and over just those that are needed: every lent cell is set, so more of them take longer.
-fn report_times<S: Stock>(
-    rt: &HostRuntime,
-    stock: &S,
-    plan: &FlatPlan,
-    cells: &mut [Cell],
-    need: usize,
-    repeats: u32,
-) -> io::Result<()> {
-    let most = time(rt, stock, plan, cells, repeats)?;
-    let lent = need.min(cells.len());
-    let least = time(rt, stock, plan, &mut cells[0..lent], repeats)?;
-    print!(rt; ", {most} ns, {least} ns with no cell to spare")
-}
-
-fn report<S: Stock>(
-    rt: &HostRuntime,
-    stock: &S,
-    plan: &FlatPlan,
-    cells: &mut [Cell],
-    repeats: u32,
-) -> io::Result<()> {
-    match run(stock, plan, cells) {
-        Ok((rows, _)) => {
-            let need = need(stock, plan, cells);
-            print!(rt; "{rows} rows, {need} cells")?;
-            if repeats > 0 {
-                report_times(rt, stock, plan, cells, need, repeats)?;
+    // The least count of cells that suffices, by halving, one bit of it after the other.
+    // By hand: the library searches slices, and none holds what the counts come to.
+    fn need(&mut self) -> usize {
+        let mut short = 0usize;
+        for bit in (0..16u32).rev() {
+            let lent = short.saturating_add(1 << bit);
+            if !self.suffices(lent) {
+                short = lent;
             }
-            println!(rt; "")
         }
-        Err(refusal) => refused(rt, refusal),
+        short.saturating_add(1)
+    }
+
+    // Nanoseconds per call with so many of the cells, or all where these are fewer. No repeat counts as one.
+    fn time(&mut self, rt: &HostRuntime, lent: usize, repeats: u32) -> io::Result<u128> {
+        let n = lent.min(self.cells.len());
+        let cells = &mut self.cells[..n];
+        let start = Instant::now(rt)?;
+        for _ in 0..repeats {
+            let _ = run(self.stock, self.plan, cells);
+        }
+        let nanos = start.elapsed(rt)?.as_nanos();
+        Ok(nanos / u128::from(repeats.max(1)))
+    }
+
+    // The time over all the cells, and over just those that are needed: every lent cell is set, so more of them take longer.
+    fn report(&mut self, rt: &HostRuntime, rows: usize, repeats: Option<u32>) -> io::Result<()> {
+        let need = self.need();
+        let all = self.cells.len();
+        print!(rt; "{rows} rows, {need} cells")?;
+        if let Some(repeats) = repeats {
+            let most = self.time(rt, all, repeats)?;
+            let least = self.time(rt, need, repeats)?;
+            print!(rt; ", {most} ns, {least} ns with no cell to spare")?;
+        }
+        println!(rt; "")
     }
 }
 
@@ -94,10 +84,14 @@ pub fn measure<S: Stock>(
     stock: &S,
     lines: &[Line],
     cells: &mut [Cell],
-    repeats: u32,
+    repeats: Option<u32>,
 ) -> io::Result<()> {
-    match plan_of(stock, lines) {
-        Ok(plan) => report(rt, stock, &plan, cells, repeats),
-        Err(refusal) => refused(rt, refusal),
+    match planned(stock, lines, cells) {
+        Ok((plan, rows)) => {
+            let plan = &plan;
+            let mut trial = Trial { stock, plan, cells };
+            trial.report(rt, rows, repeats)
+        }
+        Err(refusal) => println!(rt; "refused with {refusal}"),
     }
 }

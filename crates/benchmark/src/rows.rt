@@ -7,13 +7,13 @@ fn wanted(k: u16) -> Cell {
     if k % 11 == 5 {
         Cell::Null
     } else {
-        Cell::Number((k % 4) as i64)
+        Cell::Number(i64::from(k % 4))
     }
 }
 
 // The kit that shipment s is for. Low kits have several and many a high one has none.
 fn shipped(s: u32) -> Cell {
-    Cell::Number((s / (s % 5 + 2)) as i64)
+    Cell::Number(i64::from(s / (s % 5 + 2)))
 }
 
 // Only at this size is there a shipment for no known kit, the last. A NOT IN then holds for no kit.
@@ -23,23 +23,13 @@ fn with_unknown(kits: u16) -> bool {
 
 // The kits (kit, wanted), then twice as many shipments (kit). These have no part: with a second column 90 kits would need over 65,536 cells.
 pub fn lay(heap: Global, kits: u16) -> Result<Vec<Cell>, AllocError> {
-    let mut cells = Vec::new(heap);
-    for k in 0..kits {
-        cells.push(Cell::Number(k as i64))?;
-        cells.push(wanted(k))?;
+    let known = (0..kits).flat_map(|k| [Cell::Number(i64::from(k)), wanted(k)]);
+    let shipments = (0..u32::from(kits) * 2).map(shipped);
+    let mut cells: Vec<Cell> = known.chain(shipments).collect(heap)?;
+    if with_unknown(kits)
+        && let Some(last) = cells.last_mut()
+    {
+        *last = Cell::Null;
     }
-    lay_shipments(&mut cells, kits)?;
     Ok(cells)
-}
-
-fn lay_shipments(cells: &mut Vec<Cell>, kits: u16) -> Result<(), AllocError> {
-    let count = kits as u32 * 2;
-    for s in 0..count {
-        if with_unknown(kits) && s + 1 == count {
-            cells.push(Cell::Null)?;
-        } else {
-            cells.push(shipped(s))?;
-        }
-    }
-    Ok(())
 }

@@ -1,12 +1,14 @@
 // What a table's row holds in a column.
-ghost use Rattle.std.specs.Prelude.{◌≡◌, true};
-ghost use Rattle.cells.specs.Cells.{same_cell, null_cell, stored, Decides, InRange};
+ghost use Rattle.std.specs.Prelude.{◌≡◌};
+ghost use Rattle.cells.specs.Cells.{same_cell, null_cell, stored, as_cell, Decides, InRange};
 
+use crate::truth::Truth;
 use std::fmt;
 
-// NULL or a whole number, wide enough for sums of stored numbers.
-#[derive(Clone, Copy)]
+// NULL or a whole number, wide enough for sums of stored numbers. Not an Option: a type of the project's own has its own printing, conversions and the two relations.
+#[derive(Clone, Copy, Debug, Default, PartialEq, Eq)]
 pub enum Cell {
+    #[default]
     Null,
     Number(i64),
 }
@@ -20,10 +22,7 @@ impl Cell {
     pub fn is_null(self) -> bool
         ensures { result ≡ null_cell self }
     {
-        match self {
-            Cell::Null => true,
-            Cell::Number(_) => false,
-        }
+        matches!(self, Cell::Null)
     }
 
     // Sameness, unlike comparison, takes NULL for the same as NULL.
@@ -31,11 +30,7 @@ impl Cell {
         ensures value { result ≡ same_cell self other }
         ensures decides { Decides self other result }
     {
-        match (self, other) {
-            (Cell::Null, Cell::Null) => true,
-            (Cell::Number(a), Cell::Number(b)) => a == b,
-            _ => false,
-        }
+        self == other
     }
 
     // Whether a table may store the cell: NULL, or a number of 32 bits.
@@ -45,7 +40,20 @@ impl Cell {
     {
         match self {
             Cell::Null => true,
-            Cell::Number(z) => LEAST_STORED <= z && z <= GREATEST_STORED,
+            Cell::Number(z) => (LEAST_STORED..=GREATEST_STORED).contains(&z),
+        }
+    }
+}
+
+// What ExtendTruth and the quantified Applies lay: 1, 0 or NULL.
+impl From<Truth> for Cell {
+    ghost from_gives = { λ truth cell. cell ≡ as_cell truth };
+
+    fn from(truth: Truth) -> Cell {
+        match truth {
+            Truth::True => Cell::Number(1),
+            Truth::False => Cell::Number(0),
+            Truth::Unknown => Cell::Null,
         }
     }
 }

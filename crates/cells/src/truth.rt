@@ -1,12 +1,9 @@
 // The three truth values of SQL and their connectives.
 ghost use Rattle.std.specs.Prelude.{◌≡◌};
-ghost use Rattle.cells.specs.Cells.{as_cell};
 ghost use Rattle.cells.specs.Truths.{not3, and3, or3, unknown3, truth_of, LeastUpper, GreatestLower, Swapped, Settled};
 
-use crate::cell::Cell;
-
 // Ordered False < Unknown < True.
-#[derive(Clone, Copy)]
+#[derive(Clone, Copy, Debug, PartialEq, Eq, PartialOrd, Ord)]
 pub enum Truth {
     False,
     Unknown,
@@ -14,22 +11,12 @@ pub enum Truth {
 }
 
 impl Truth {
-    pub fn of(holds: bool) -> Truth
-        ensures { result ≡ truth_of holds }
-    {
-        if holds { Truth::True } else { Truth::False }
-    }
-
     // True where a part is true, else unknown where a part is unknown.
     pub fn or(self, other: Truth) -> Truth
         ensures value { result ≡ or3 self other }
         ensures highest { LeastUpper self other result }
     {
-        match (self, other) {
-            (Truth::True, _) | (_, Truth::True) => Truth::True,
-            (Truth::Unknown, _) | (_, Truth::Unknown) => Truth::Unknown,
-            _ => Truth::False,
-        }
+        self.max(other)
     }
 
     // False where a part is false, else unknown where a part is unknown.
@@ -37,11 +24,7 @@ impl Truth {
         ensures value { result ≡ and3 self other }
         ensures lowest { GreatestLower self other result }
     {
-        match (self, other) {
-            (Truth::False, _) | (_, Truth::False) => Truth::False,
-            (Truth::Unknown, _) | (_, Truth::Unknown) => Truth::Unknown,
-            _ => Truth::True,
-        }
+        self.min(other)
     }
 
     pub fn not(self) -> Truth
@@ -60,20 +43,14 @@ impl Truth {
         ensures value { result ≡ unknown3 self }
         ensures settled { Settled result }
     {
-        match self {
-            Truth::Unknown => Truth::True,
-            Truth::True | Truth::False => Truth::False,
-        }
+        Truth::from(matches!(self, Truth::Unknown))
     }
+}
 
-    // The cell that ExtendTruth and the quantified Applies lay: 1, 0 or NULL.
-    pub fn as_cell(self) -> Cell
-        ensures { result ≡ as_cell self }
-    {
-        match self {
-            Truth::True => Cell::Number(1),
-            Truth::False => Cell::Number(0),
-            Truth::Unknown => Cell::Null,
-        }
+impl From<bool> for Truth {
+    ghost from_gives = { λ holds truth. truth ≡ truth_of holds };
+
+    fn from(holds: bool) -> Truth {
+        if holds { Truth::True } else { Truth::False }
     }
 }

@@ -1,2 +1,1 @@
-mod Stretches
 mod Digits

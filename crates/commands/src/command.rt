@@ -5,17 +5,17 @@ use cells::cell::Cell;
 use lines::line::Line;
 use std::alloc::AllocError;
 
-// What a line asks for. The cells of Row and Add are read apart.
-#[derive(Clone, Copy)]
-pub enum Command {
+// What a line asks for.
+#[derive(Clone, Copy, Debug, PartialEq, Eq)]
+pub enum Command<'a> {
     Table(usize),
-    Row,
+    Row(&'a [Cell]),
     Open,
     Line(Line),
     Lay,
     Unnest,
     Plan,
-    Add(usize),
+    Add(usize, &'a [Cell]),
     Withdraw(usize, usize),
     Clear,
     Ask(usize),
@@ -23,70 +23,56 @@ pub enum Command {
     Show(usize),
 }
 
-// Commands of words and numbers alone.
-fn plain(name: &[u8], words: &mut Words) -> Option<Command> {
-    match name {
-        b"table" => Some(Command::Table(words.count()?)),
-        b"open" => Some(Command::Open),
-        b"line" => Some(Command::Line(words.line()?)),
-        b"lay" => Some(Command::Lay),
-        b"unnest" => Some(Command::Unnest),
-        b"plan" => Some(Command::Plan),
-        b"clear" => Some(Command::Clear),
-        b"ask" => Some(Command::Ask(words.count()?)),
-        b"run" => Some(Command::Run(words.count()?)),
-        b"show" => Some(Command::Show(words.count()?)),
-        b"withdraw" => {
-            let table = words.count()?;
-            Some(Command::Withdraw(table, words.count()?))
-        }
-        _ => None,
-    }
-}
-
-// The words left as cells; false where one of them is no cell.
-fn read_cells(words: &mut Words, row: &mut Vec<Cell>) -> Result<bool, AllocError> {
-    row.clear();
-    while let Some(word) = words.next() {
-        match cell(word) {
-            Some(c) => row.push(c)?,
-            None => return Ok(false),
-        }
-    }
-    Ok(true)
-}
-
-// A command with a row behind it, if that can be read.
-fn with_row(
-    command: Command,
-    words: &mut Words,
-    row: &mut Vec<Cell>,
-) -> Result<Option<Command>, AllocError> {
-    if read_cells(words, row)? {
-        Ok(Some(command))
-    } else {
-        Ok(None)
-    }
-}
-
-// A command with no word behind it.
-fn alone(name: &[u8], words: &mut Words) -> Option<Command> {
-    let command = plain(name, words)?;
+// A command of words and numbers alone, with no word behind it.
+fn plain(name: &[u8], words: &mut Words) -> Option<Command<'static>> {
+    let command = match name {
+        b"table" => Command::Table(words.count()?),
+        b"open" => Command::Open,
+        b"line" => Command::Line(words.line()?),
+        b"lay" => Command::Lay,
+        b"unnest" => Command::Unnest,
+        b"plan" => Command::Plan,
+        b"withdraw" => Command::Withdraw(words.count()?, words.count()?),
+        b"clear" => Command::Clear,
+        b"ask" => Command::Ask(words.count()?),
+        b"run" => Command::Run(words.count()?),
+        b"show" => Command::Show(words.count()?),
+        _ => return None,
+    };
     words.end()?;
     Some(command)
 }
 
-impl Command {
-    // The command that the words say, or None where they say none. A row's cells are put into `row`.
-    pub fn read(words: &mut Words, row: &mut Vec<Cell>) -> Result<Option<Command>, AllocError> {
-        match words.next() {
-            Some(b"row") => with_row(Command::Row, words, row),
-            Some(b"add") => match words.count() {
-                Some(table) => with_row(Command::Add(table), words, row),
-                None => Ok(None),
-            },
-            Some(name) => Ok(alone(name, words)),
-            None => Ok(None),
+// The words left as the cells of a row, laid in the room of the row before.
+fn row<'a>(words: &mut Words, room: &'a mut Vec<Cell>) -> Result<Option<&'a [Cell]>, AllocError> {
+    room.clear();
+    for word in words {
+        let Some(cell) = cell(word) else {
+            return Ok(None);
+        };
+        room.push(cell)?;
+    }
+    Ok(Some(room))
+}
+
+impl<'a> Command<'a> {
+    // The command that the words say, or None where they say none.
+    pub fn read(
+        words: &mut Words,
+        room: &'a mut Vec<Cell>,
+    ) -> Result<Option<Command<'a>>, AllocError> {
+        let Some(name) = words.next() else {
+            return Ok(None);
+        };
+        match name {
+            b"row" => Ok(row(words, room)?.map(Command::Row)),
+            b"add" => {
+                let Some(table) = words.count() else {
+                    return Ok(None);
+                };
+                Ok(row(words, room)?.map(|row| Command::Add(table, row)))
+            }
+            name => Ok(plain(name, words)),
         }
     }
 }

@@ -9,10 +9,10 @@ use cells::cell::Cell;
 fn one_more(n: u64, byte: u8) -> Option<u64>
     ensures { result ≡ one_more n byte }
 {
-    if byte < b'0' || byte > b'9' {
+    if !byte.is_ascii_digit() {
         return None;
     }
-    n.checked_mul(10)?.checked_add((byte - b'0') as u64)
+    n.checked_mul(10)?.checked_add(u64::from(byte - b'0'))
 }
 
 // The number that a word of digits writes.
@@ -22,11 +22,7 @@ pub(crate) fn digits(word: &[u8]) -> Option<u64>
     if word.is_empty() {
         return None;
     }
-    let mut n = 0;
-    for b in word {
-        n = one_more(n, *b)?;
-    }
-    Some(n)
+    word.iter().try_fold(0, |n, b| one_more(n, *b))
 }
 
 // The same with its sign, if 64 bits hold that too.
@@ -46,17 +42,16 @@ fn negative(size: Option<u64>) -> Option<i64>
 pub(crate) fn number(word: &[u8]) -> Option<i64>
     ensures { result ≡ number_of word.now }
 {
-    if !word.is_empty() && word[0] == b'-' {
-        let (_, size) = word.split_at(1);
-        return negative(digits(size));
+    match word {
+        [b'-', size @ ..] => negative(digits(size)),
+        size => natural(digits(size)),
     }
-    natural(digits(word))
 }
 
 pub(crate) fn cell(word: &[u8]) -> Option<Cell> {
     match word {
         b"NULL" => Some(Cell::Null),
-        digits => Some(Cell::Number(number(digits)?)),
+        word => number(word).map(Cell::Number),
     }
 }
 

@@ -1,30 +1,44 @@
 // Answers, a line each.
+ghost use Rattle.std.specs.Iterator.{IsFinite};
+
 use cells::cell::Cell;
-use commands::written::Written;
 use lines::line::Line;
-use std::io;
+use std::fmt::Display;
 use std::io::Write;
+use std::{fmt, io};
 use stock::refusal::Refusal;
 use stock::stock::Stock;
+
+// How many lines or rows there are, and their width.
+#[derive(Clone, Copy)]
+struct Size(usize, usize);
+
+impl Display for Size {
+    fn fmt<W: fmt::Write>(&self, f: &mut fmt::Formatter<W>) -> fmt::Result {
+        let Size(count, width) = *self;
+        write!(f, "{count} {width}")
+    }
+}
 
 pub fn unread<W: Write>(out: &mut W, place: u64) -> io::Result<()> {
     writeln!(out, "unread {place}")
 }
 
+// In the words that scripts read; a refusal's own are for people.
 pub fn refused<W: Write>(out: &mut W, refusal: Refusal) -> io::Result<()> {
     let number = refusal.number();
     let value = refusal.value();
     writeln!(out, "refused {number} {value}")
 }
 
-// A call that answers a count.
-pub fn counted<W: Write>(
+// What a call answers.
+pub fn answered<W: Write, T: Display + Drop>(
     out: &mut W,
     call: &str,
-    answer: Result<usize, Refusal>,
+    answer: Result<T, Refusal>,
 ) -> io::Result<()> {
     match answer {
-        Ok(n) => writeln!(out, "{call} {n}"),
+        Ok(value) => writeln!(out, "{call} {value}"),
         Err(refusal) => refused(out, refusal),
     }
 }
@@ -35,13 +49,13 @@ pub fn sized<W: Write>(
     call: &str,
     answer: Result<(usize, usize), Refusal>,
 ) -> io::Result<()> {
-    match answer {
-        Ok((n, width)) => writeln!(out, "{call} {n} {width}"),
-        Err(refusal) => refused(out, refusal),
-    }
+    answered(out, call, answer.map(|(count, width)| Size(count, width)))
 }
 
-fn row<W: Write>(out: &mut W, cells: &[Cell]) -> io::Result<()> {
+fn row<W: Write, I: Iterator<Item = Cell>>(out: &mut W, cells: I) -> io::Result<()>
+    requires can { I.can_next cells }
+    requires ends { IsFinite (I.remaining cells) }
+{
     write!(out, "row")?;
     for cell in cells {
         write!(out, " {cell}")?;
@@ -59,7 +73,7 @@ pub fn rows<W: Write>(
     sized(out, call, answer)?;
     if let Ok((count, width)) = answer {
         for one in cells.chunks(width.max(1)).take(count) {
-            row(out, one)?;
+            row(out, one.iter().copied())?;
         }
     }
     Ok(())
@@ -69,13 +83,12 @@ pub fn lines<W: Write>(out: &mut W, lines: &[Line]) -> io::Result<()> {
     let count = lines.len();
     writeln!(out, "plan {count}")?;
     for (i, line) in lines.iter().enumerate() {
-        let words = Written(*line);
-        writeln!(out, "{i} {words}")?;
+        writeln!(out, "{i} {line}")?;
     }
     Ok(())
 }
 
-// The rows that a table shows.
+// The rows that a table shows. A stock lends none: it is asked for each cell by its place and column.
 pub fn shown<W: Write, S: Stock>(out: &mut W, stock: &S, table: usize) -> io::Result<()> {
     if table >= stock.table_count() {
         return refused(out, Refusal::NotShown);
@@ -83,22 +96,8 @@ pub fn shown<W: Write, S: Stock>(out: &mut W, stock: &S, table: usize) -> io::Re
     let rows = stock.row_count(table);
     writeln!(out, "show {rows}")?;
     for place in 0..rows {
-        write!(out, "row")?;
-        shown_row(out, stock, table, place)?;
-        writeln!(out, "")?;
-    }
-    Ok(())
-}
-
-fn shown_row<W: Write, S: Stock>(
-    out: &mut W,
-    stock: &S,
-    table: usize,
-    place: usize,
-) -> io::Result<()> {
-    for column in 0..stock.width(table) {
-        let cell = stock.cell(table, place, column);
-        write!(out, " {cell}")?;
+        let columns = 0..stock.width(table);
+        row(out, columns.map(|column| stock.cell(table, place, column)))?;
     }
     Ok(())
 }

@@ -8,8 +8,8 @@ mod serving;
 
 use cells::cell::Cell;
 use input::Input;
-use opening::{Parts, prepare};
-use serving::serve;
+use opening::prepare;
+use serving::Service;
 use session::session::Session;
 use shelf::shelf::Shelf;
 use std::io;
@@ -23,11 +23,16 @@ fn main(rt: HostRuntime) -> io::Result<()> {
     let mut input = Input::of(heap, BufReader::new(heap, rt.stdin())?);
     let mut out = BufWriter::new(heap, rt.stdout())?;
     let mut lines = Vec::new(heap);
-    let mut parts = Parts::none(heap);
-    if !prepare(&mut input, &mut out, &mut parts, &mut lines)? {
+    let Some(parts) = prepare(heap, &mut input, &mut out, &mut lines)? else {
         return Ok(());
-    }
-    let mut cells = vec![in heap; Cell::Null; LENT]?;
-    let mut session = Session::open(Shelf::of(&parts.cells, &parts.pairs));
-    serve(&mut input, &mut out, &mut session, &mut lines, &mut cells)
+    };
+    let cells = vec![in heap; Cell::Null; LENT]?;
+    let session = Session::open(Shelf::of(&parts.cells, &parts.pairs));
+    let mut service = Service {
+        session,
+        lines,
+        cells,
+        out,
+    };
+    service.serve(&mut input)
 }

@@ -1,6 +1,6 @@
 // Before a session: the tables of the opening shelf.
-use crate::answers::{counted, unread};
-use crate::input::Input;
+use crate::answers::{answered, unread};
+use crate::input::{Input, Said};
 use cells::cell::Cell;
 use commands::command::Command;
 use lines::line::Line;
@@ -16,16 +16,8 @@ pub struct Parts {
     pub pairs: Vec<(usize, usize)>,
 }
 
-// What a command came to.
-#[derive(Drop)]
-enum Outcome {
-    Done,
-    Unread,
-    Opened,
-}
-
 impl Parts {
-    pub fn none(heap: Global) -> Parts {
+    fn none(heap: Global) -> Parts {
         Parts {
             cells: Vec::new(heap),
             pairs: Vec::new(heap),
@@ -37,76 +29,68 @@ impl Parts {
         self.pairs.clear();
     }
 
-    // One row more in the last table. False where there is none, or of another width.
-    fn put(&mut self, row: &[Cell]) -> Result<bool, AllocError> {
-        let Some((width, rows)) = self.pairs.pop() else {
-            return Ok(false);
-        };
-        if width != row.len() {
-            self.pairs.push((width, rows))?;
-            return Ok(false);
-        }
+    // Whether there is a last table, and the row is as wide.
+    fn takes(&self, row: &[Cell]) -> bool {
+        self.pairs
+            .last()
+            .is_some_and(|(width, _)| *width == row.len())
+    }
+
+    // One row more in the last table.
+    fn put(&mut self, row: &[Cell]) -> Result<(), AllocError> {
         self.cells.extend_from_slice(row)?;
-        self.pairs.push((width, rows.saturating_add(1)))?;
-        Ok(true)
+        if let Some((_, rows)) = self.pairs.last_mut() {
+            *rows = rows.saturating_add(1);
+        }
+        Ok(())
     }
 }
 
-fn done_if(done: bool) -> Outcome {
-    if done { Outcome::Done } else { Outcome::Unread }
-}
-
-// Answers how many tables the parts make. Parts that make none are forgotten.
-fn open<W: Write>(out: &mut W, parts: &mut Parts) -> io::Result<Outcome> {
+// Answers how many tables the parts make, and whether they make a shelf. Parts that make none are forgotten.
+fn open<W: Write>(out: &mut W, parts: &mut Parts) -> io::Result<bool> {
     let answer = Shelf::check(&parts.cells, &parts.pairs);
-    counted(out, "open", answer)?;
-    if answer.is_ok() {
-        return Ok(Outcome::Opened);
+    answered(out, "open", answer)?;
+    if answer.is_err() {
+        parts.clear();
     }
-    parts.clear();
-    Ok(Outcome::Done)
+    Ok(answer.is_ok())
 }
 
+// Whether the parts make a shelf now. No Option of the parts: they are lent, and the next command goes on with them.
 fn obey<W: Write>(
-    input: &mut Input,
-    out: &mut W,
-    parts: &mut Parts,
-    lines: &mut Vec<Line>,
-) -> io::Result<Outcome> {
-    match input.command()? {
-        Some(Command::Table(width)) => {
-            parts.pairs.push((width, 0))?;
-            Ok(Outcome::Done)
-        }
-        Some(Command::Row) => Ok(done_if(parts.put(&input.row)?)),
-        Some(Command::Open) => open(out, parts),
-        Some(Command::Line(line)) => {
-            lines.push(line)?;
-            Ok(Outcome::Done)
-        }
-        _ => Ok(Outcome::Unread),
-    }
-}
-
-// Takes commands until a shelf is made. False where the input ends before.
-pub fn prepare<W: Write>(
-    input: &mut Input,
+    said: Said,
     out: &mut W,
     parts: &mut Parts,
     lines: &mut Vec<Line>,
 ) -> io::Result<bool> {
-    for _ in 0..u64::MAX {
-        if !input.next()? {
-            return Ok(false);
-        }
-        let outcome = obey(input, out, parts, lines)?;
-        if let Outcome::Unread = outcome {
-            unread(out, input.place)?;
-        }
-        out.flush()?;
-        if let Outcome::Opened = outcome {
-            return Ok(true);
-        }
+    match said.command {
+        Some(Command::Table(width)) => parts.pairs.push((width, 0))?,
+        Some(Command::Row(row)) if parts.takes(row) => parts.put(row)?,
+        Some(Command::Line(line)) => lines.push(line)?,
+        Some(Command::Open) => return open(out, parts),
+        _ => unread(out, said.place)?,
     }
     Ok(false)
+}
+
+// Takes commands until a shelf is made of the parts. None where the input ends before.
+pub fn prepare<W: Write>(
+    heap: Global,
+    input: &mut Input,
+    out: &mut W,
+    lines: &mut Vec<Line>,
+) -> io::Result<Option<Parts>> {
+    let mut parts = Parts::none(heap);
+    // Counted, as in `Input`: the input may never end, and a loop must.
+    for _ in 0..u64::MAX {
+        let Some(said) = input.next()? else {
+            break;
+        };
+        let is_open = obey(said, out, &mut parts, lines)?;
+        out.flush()?;
+        if is_open {
+            return Ok(Some(parts));
+        }
+    }
+    Ok(None)
 }

@@ -1,6 +1,6 @@
 // The calls on a session that is open.
-use crate::answers::{counted, lines as write_lines, refused, rows, shown, sized, unread};
-use crate::input::Input;
+use crate::answers::{answered, lines as write_lines, refused, rows, shown, sized, unread};
+use crate::input::{Input, Said};
 use cells::cell::Cell;
 use commands::command::Command;
 use lines::line::Line;
@@ -13,7 +13,7 @@ use stock::stock::Stock;
 // As many of the cells as are asked for, or all where these are more.
 fn lend(cells: &mut [Cell], count: usize) -> &mut [Cell] {
     let n = count.min(cells.len());
-    &mut cells[0..n]
+    &mut cells[..n]
 }
 
 fn plan<W: Write, S: Stock>(out: &mut W, session: &Session<S>) -> io::Result<()> {
@@ -23,106 +23,65 @@ fn plan<W: Write, S: Stock>(out: &mut W, session: &Session<S>) -> io::Result<()>
     }
 }
 
-// Rows that are moved.
-fn moved<W: Write, S: Stock>(
-    out: &mut W,
-    session: &mut Session<S>,
-    command: Command,
-    row: &[Cell],
-) -> io::Result<bool> {
-    match command {
-        Command::Add(table) => counted(out, "add", session.add(table, row))?,
-        Command::Withdraw(table, place) => {
-            counted(out, "withdraw", session.withdraw(table, place))?
-        }
-        Command::Clear => {
-            session.clear();
-            writeln!(out, "clear 0")?
-        }
-        _ => return Ok(false),
-    }
-    Ok(true)
+// An open session, the query that is written for it, the cells to lend, and where the answers go.
+#[derive(Drop)]
+pub struct Service<W, S: Stock> {
+    pub session: Session<S>,
+    pub lines: Vec<Line>,
+    pub cells: Vec<Cell>,
+    pub out: W,
 }
 
-// Rows that are read.
-fn answered<W: Write, S: Stock>(
-    out: &mut W,
-    session: &Session<S>,
-    command: Command,
-    cells: &mut [Cell],
-) -> io::Result<bool> {
-    match command {
-        Command::Ask(count) => {
-            let lent = lend(cells, count);
-            let answer = session.ask(lent);
-            rows(out, "ask", answer, lent)?
+impl<W: Write, S: Stock> Service<W, S> {
+    // Makes the call that is asked for.
+    fn obey(&mut self, said: Said) -> io::Result<()> {
+        let session = &mut self.session;
+        let lines = &mut self.lines;
+        let out = &mut self.out;
+        match said.command {
+            Some(Command::Line(line)) => Ok(lines.push(line)?),
+            Some(Command::Lay) => {
+                let answer = session.lay(lines);
+                lines.clear();
+                sized(out, "lay", answer)
+            }
+            Some(Command::Unnest) => answered(out, "unnest", session.unnest()),
+            Some(Command::Plan) => plan(out, session),
+            Some(Command::Add(table, row)) => answered(out, "add", session.add(table, row)),
+            Some(Command::Withdraw(table, place)) => {
+                answered(out, "withdraw", session.withdraw(table, place))
+            }
+            Some(Command::Clear) => {
+                session.clear();
+                writeln!(out, "clear 0")
+            }
+            Some(Command::Ask(count)) => {
+                let lent = lend(&mut self.cells, count);
+                let answer = session.ask(lent);
+                rows(out, "ask", answer, lent)
+            }
+            Some(Command::Run(count)) => {
+                let lent = lend(&mut self.cells, count);
+                let answer = session.run(lent);
+                rows(out, "run", answer, lent)
+            }
+            Some(Command::Show(table)) => shown(out, session.stock(), table),
+            Some(Command::Table(_) | Command::Row(_) | Command::Open) | None => {
+                unread(out, said.place)
+            }
         }
-        Command::Run(count) => {
-            let lent = lend(cells, count);
-            let answer = session.run(lent);
-            rows(out, "run", answer, lent)?
-        }
-        Command::Show(table) => shown(out, session.stock(), table)?,
-        _ => return Ok(false),
     }
-    Ok(true)
-}
 
-// The query and its plan.
-fn queried<W: Write, S: Stock>(
-    out: &mut W,
-    session: &mut Session<S>,
-    command: Command,
-    lines: &mut Vec<Line>,
-) -> io::Result<bool> {
-    match command {
-        Command::Line(line) => lines.push(line)?,
-        Command::Lay => {
-            let answer = session.lay(lines);
-            lines.clear();
-            sized(out, "lay", answer)?
+    // Takes commands to the end of the input.
+    pub fn serve(&mut self, input: &mut Input) -> io::Result<()> {
+        // Counted, as in `Input`: the input may never end, and a loop must.
+        for _ in 0..u64::MAX {
+            let Some(said) = input.next()? else {
+                break;
+            };
+            self.obey(said)?;
+            self.out.flush()?;
         }
-        Command::Unnest => counted(out, "unnest", session.unnest())?,
-        Command::Plan => plan(out, session)?,
-        _ => return Ok(false),
+        Ok(())
     }
-    Ok(true)
-}
-
-// Makes the call that the line asks for. False where it asks for none.
-fn obey<W: Write, S: Stock>(
-    input: &mut Input,
-    out: &mut W,
-    session: &mut Session<S>,
-    lines: &mut Vec<Line>,
-    cells: &mut [Cell],
-) -> io::Result<bool> {
-    let Some(command) = input.command()? else {
-        return Ok(false);
-    };
-    Ok(
-        queried(out, session, command, lines)?
-            || moved(out, session, command, &input.row)?
-            || answered(out, session, command, cells)?,
-    )
-}
-
-// Takes commands to the end of the input.
-pub fn serve<W: Write, S: Stock>(
-    input: &mut Input,
-    out: &mut W,
-    session: &mut Session<S>,
-    lines: &mut Vec<Line>,
-    cells: &mut [Cell],
-) -> io::Result<()> {
-    for _ in 0..u64::MAX {
-        if !input.next()? {
-            break;
-        }
-        if !obey(input, out, session, lines, cells)? {
-            unread(out, input.place)?;
-        }
-        out.flush()?;
-    }
-    Ok(())
 }

@@ -4,16 +4,14 @@ ghost use Rattle.evaluate.specs.Examples.{Counted, AllWorked};
 use lines::examples::worked_examples;
 
 // Each example needs exactly its cells, and with one less the line that would pass them comes back.
-pub fn counted_examples() -> u8
+pub fn counted_examples()
     ensures { Counted }
-{
-    0
-}
+{}
 
 // All worked examples, those on rows and those on cells.
-pub fn all_worked_examples() -> u8
+pub fn all_worked_examples()
     ensures { AllWorked }
 {
-    let _ = worked_examples();
-    counted_examples()
+    worked_examples();
+    counted_examples();
 }

@@ -6,6 +6,7 @@ pub mod ask;
 pub mod examples;
 pub mod form;
 mod operate;
+mod overrun;
 mod read;
 pub mod run;
 mod settle;

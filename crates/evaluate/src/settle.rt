@@ -1,11 +1,11 @@
-// The cells as a call leaves them.
+// The cells as a call leaves them where they suffice.
 ghost use Rattle.std.specs.Prelude.{◌≡◌, ◌-◌, ◌*◌, ◌++◌, length, replicate};
 ghost use Rattle.std.specs.List.{flat_map};
 ghost use Rattle.cells.specs.declared.cell.Cell.TheVariants.{Null};
 ghost use Rattle.operators.specs.Places.{rows_in, Stands, Room};
 
 use cells::cell::Cell;
-use operators::moves::{copy, put_nulls};
+use operators::moves::copy;
 use operators::region::Region;
 
 // Moves the rows of a region to the front, and sets every other cell to NULL.
@@ -16,14 +16,5 @@ pub(crate) fn settle(cells: &mut [Cell], rows: Region)
 {
     let count = rows.rows * rows.width;
     copy(cells, rows.start, 0, count);
-    let rest = cells.len() - count;
-    put_nulls(cells, count, rest);
-}
-
-// Sets every cell to NULL.
-pub(crate) fn clear(cells: &mut [Cell])
-    ensures { cells.new ≡ replicate (length cells.old) Null }
-{
-    let count = cells.len();
-    put_nulls(cells, 0, count);
+    cells[count..].fill(Cell::Null);
 }

@@ -1,33 +1,12 @@
-// Answers as the tests expect them.
+// Answers as the tests expect them. Only tests may stop the process, so no crate below can lend these to all test crates.
 use cells::cell::Cell;
 use std::process::Abort;
-use std::test::Fail;
 use stock::refusal::Refusal;
 use stock::stock::Stock;
 
-pub fn answered(rt: &impl Abort, answer: Result<usize, Refusal>, n: usize) -> Result<(), Fail> {
-    match answer {
-        Ok(m) => {
-            assert_eq!(rt; m, n);
-            Ok(())
-        }
-        Err(_) => Err(Fail::new("refused")),
-    }
-}
-
-pub fn refused(
-    rt: &impl Abort,
-    answer: Result<usize, Refusal>,
-    number: usize,
-    value: usize,
-) -> Result<(), Fail> {
-    match answer {
-        Ok(_) => Err(Fail::new("answered")),
-        Err(e) => {
-            assert_eq!(rt; (e.number(), e.value()), (number, value));
-            Ok(())
-        }
-    }
+pub fn refused<T: Drop>(rt: &impl Abort, answer: Result<T, Refusal>, number: usize, value: usize) {
+    let refusal = answer.err().map(|e| (e.number(), e.value()));
+    assert_eq!(rt; refusal, Some((number, value)));
 }
 
 // A table of one column holds just these cells.
@@ -35,7 +14,7 @@ pub fn holds<S: Stock>(rt: &impl Abort, stock: &S, table: usize, cells: &[Cell])
     assert_eq!(rt; stock.width(table), 1);
     assert_eq!(rt; stock.row_count(table), cells.len());
     for (place, cell) in cells.iter().enumerate() {
-        assert!(rt; stock.cell(table, place, 0).same(*cell));
+        assert_eq!(rt; stock.cell(table, place, 0), *cell);
     }
-    assert!(rt; stock.cell(table, cells.len(), 0).is_null());
+    assert_eq!(rt; stock.cell(table, cells.len(), 0), Cell::Null);
 }

@@ -2,11 +2,6 @@
 use cells::cell::Cell;
 use cells::sign::Sign;
 use cells::truth::Truth;
-use std::process::Abort;
-
-fn same(rt: &impl Abort, a: Truth, b: Truth) {
-    assert!(rt; a.as_cell().same(b.as_cell()));
-}
 
 #[test]
 fn or_and_their_table(rt: HostRuntime) {
@@ -22,8 +17,8 @@ fn or_and_their_table(rt: HostRuntime) {
         (t, u, t, u),
         (t, t, t, t),
     ] {
-        same(&rt, a.or(b), either);
-        same(&rt, a.and(b), both);
+        assert_eq!(rt; a.or(b), either);
+        assert_eq!(rt; a.and(b), both);
     }
 }
 
@@ -31,16 +26,16 @@ fn or_and_their_table(rt: HostRuntime) {
 fn not_and_unknown(rt: HostRuntime) {
     let (f, u, t) = (Truth::False, Truth::Unknown, Truth::True);
     for (a, negated, unknown) in [(f, t, f), (u, u, t), (t, f, f)] {
-        same(&rt, a.not(), negated);
-        same(&rt, a.unknown(), unknown);
+        assert_eq!(rt; a.not(), negated);
+        assert_eq!(rt; a.unknown(), unknown);
     }
 }
 
 #[test]
 fn truth_as_a_cell(rt: HostRuntime) {
-    assert!(rt; Truth::True.as_cell().same(Cell::Number(1)));
-    assert!(rt; Truth::False.as_cell().same(Cell::Number(0)));
-    assert!(rt; Truth::Unknown.as_cell().same(Cell::Null));
+    assert_eq!(rt; Cell::from(Truth::True), Cell::Number(1));
+    assert_eq!(rt; Cell::from(Truth::False), Cell::Number(0));
+    assert_eq!(rt; Cell::from(Truth::Unknown), Cell::Null);
 }
 
 #[test]
@@ -54,23 +49,14 @@ fn signs_over_numbers(rt: HostRuntime) {
         (Sign::AtLeast, false, true, true),
     ] {
         for (a, b, holds) in [(-3, 2, below), (-3, -3, equal), (2, -3, above)] {
-            same(
-                &rt,
+            assert_eq!(rt;
                 sign.compare(Cell::Number(a), Cell::Number(b)),
-                Truth::of(holds),
+                Truth::from(holds)
             );
         }
-        same(
-            &rt,
-            sign.compare(Cell::Null, Cell::Number(0)),
-            Truth::Unknown,
-        );
-        same(
-            &rt,
-            sign.compare(Cell::Number(0), Cell::Null),
-            Truth::Unknown,
-        );
-        same(&rt, sign.compare(Cell::Null, Cell::Null), Truth::Unknown);
+        assert_eq!(rt; sign.compare(Cell::Null, Cell::Number(0)), Truth::Unknown);
+        assert_eq!(rt; sign.compare(Cell::Number(0), Cell::Null), Truth::Unknown);
+        assert_eq!(rt; sign.compare(Cell::Null, Cell::Null), Truth::Unknown);
     }
 }
 

@@ -6,3 +6,4 @@ pub mod Marks
 pub mod Unread
 pub mod Laws
 pub mod Examples
+pub mod Spellings

@@ -5,3 +5,4 @@ pub mod examples;
 pub mod laws;
 pub mod line;
 pub mod shapes;
+pub mod words;

@@ -10,33 +10,31 @@ impl Line {
         ensures { result ≡ shape_of self }
     {
         match self {
-            Line::Unit => Shape::Leaf,
-            Line::Table { .. } => Shape::Leaf,
-            Line::Select { rows, condition } => Shape::Tested(rows, condition),
-            Line::Keep { rows, .. } => Shape::One(rows),
-            Line::Extend { rows, .. } => Shape::One(rows),
-            Line::ExtendTruth { rows, condition } => Shape::Tested(rows, condition),
-            Line::Pad { rows, .. } => Shape::One(rows),
-            Line::Match { left, right, .. } => Shape::Two(left, right),
-            Line::SemiMatch { left, right, .. } => Shape::Two(left, right),
-            Line::AntiMatch { left, right, .. } => Shape::Two(left, right),
-            Line::Union { left, right } => Shape::Two(left, right),
-            Line::Diff { left, right } => Shape::Two(left, right),
-            Line::Distinct { rows } => Shape::One(rows),
-            Line::Group { rows, .. } => Shape::One(rows),
-            Line::Total { rows, .. } => Shape::One(rows),
-            Line::ApplyCross { left, right } => Shape::Inner(left, right),
-            Line::ApplyOuter { left, right } => Shape::Inner(left, right),
-            Line::ApplySemi { left, right } => Shape::Inner(left, right),
-            Line::ApplyAnti { left, right } => Shape::Inner(left, right),
-            Line::ApplySome { left, right, .. } => Shape::Inner(left, right),
-            Line::ApplyAll { left, right, .. } => Shape::Inner(left, right),
-            Line::Compare { .. } => Shape::Leaf,
-            Line::IsNull { .. } => Shape::Leaf,
-            Line::Not { condition } => Shape::Part(condition),
-            Line::Unknown { condition } => Shape::Part(condition),
-            Line::And { left, right } => Shape::Parts(left, right),
-            Line::Or { left, right } => Shape::Parts(left, right),
+            Line::Unit | Line::Table { .. } | Line::Compare { .. } | Line::IsNull { .. } => {
+                Shape::Leaf
+            }
+            Line::Keep { rows, .. }
+            | Line::Extend { rows, .. }
+            | Line::Pad { rows, .. }
+            | Line::Distinct { rows }
+            | Line::Group { rows, .. }
+            | Line::Total { rows, .. } => Shape::One(rows),
+            Line::Match { left, right, .. }
+            | Line::SemiMatch { left, right, .. }
+            | Line::AntiMatch { left, right, .. }
+            | Line::Union { left, right }
+            | Line::Diff { left, right } => Shape::Two(left, right),
+            Line::Select { rows, condition } | Line::ExtendTruth { rows, condition } => {
+                Shape::Tested(rows, condition)
+            }
+            Line::ApplyCross { left, right }
+            | Line::ApplyOuter { left, right }
+            | Line::ApplySemi { left, right }
+            | Line::ApplyAnti { left, right }
+            | Line::ApplySome { left, right, .. }
+            | Line::ApplyAll { left, right, .. } => Shape::Inner(left, right),
+            Line::Not { condition } | Line::Unknown { condition } => Shape::Part(condition),
+            Line::And { left, right } | Line::Or { left, right } => Shape::Parts(left, right),
         }
     }
 
@@ -44,14 +42,14 @@ impl Line {
     pub fn is_condition(self) -> bool
         ensures { result ≡ is_condition self }
     {
-        match self {
-            Line::Compare { .. } => true,
-            Line::IsNull { .. } => true,
-            Line::Not { .. } => true,
-            Line::Unknown { .. } => true,
-            Line::And { .. } => true,
-            Line::Or { .. } => true,
-            _ => false,
-        }
+        matches!(
+            self,
+            Line::Compare { .. }
+                | Line::IsNull { .. }
+                | Line::Not { .. }
+                | Line::Unknown { .. }
+                | Line::And { .. }
+                | Line::Or { .. }
+        )
     }
 }

@@ -1,5 +1,5 @@
-pub mod Shift
 pub mod Rowed
+pub mod Walked
 pub mod Changes
 pub mod Empty
 pub mod Rooms

@@ -1,5 +1,5 @@
 -- A movement more leaves no table with more rows than it may show.
-use Rattle.std.proofs.Common.{◌≡◌, ℕ, ◌+◌, ◌<◌, ◌≤◌, List, [], ◌∷◌, ◌++◌, ap, ⊎_elim, arith}
+use Rattle.std.proofs.Common.{◌≡◌, Bool, true, false, eqb, sym, ◌∙◌, ℕ, ◌+◌, ◌<◌, ◌≤◌, List, [], ◌∷◌, ◌++◌, ap, ⊎_elim, arith}
 use Rattle.std.proofs.lemmas.Bool.{cases_eq, eq-eqb, ne_eqb}
 use Rattle.movements.specs.Moves.{added_count}
 use Rattle.movements.specs.Moving.{added_count_append}
@@ -19,3 +19,7 @@ add_room ms m n all here t =
 
     none : (m.table ≡ t → ⊥) → added_count t (m ∷ []) ≡ 0
     none ne = rw (ne_eqb m.table t ne)
+
+-- a vector that is not full has room
+pub room_left : (n : ℕ) → n ≤ 64 → eqb n 64 ≡ false → n < 64
+room_left n l e = ⊎_elim (λ s. let z : ◌≡◌ {A = Bool} true false = sym (eq-eqb n 64 s) ∙ e in cc) (λ s. omega arith) (cases_eq n 64)

@@ -1,32 +1,29 @@
 -- Laws of rows as they are given. Assumes nothing.
-use Rattle.std.proofs.Common.{◌≡◌, ℕ, zero, suc, ◌+◌, ◌<◌, ◌≤◌, Bool, true, false, eqb, List, [], ◌∷◌, length, get_or, drop, set, Some, None, sym, refl, ap, ◌∙◌, ⊎_elim, add-one, arith}
+use Rattle.std.proofs.Common.{◌≡◌, ℕ, zero, suc, ◌+◌, ◌<◌, ◌≤◌, Bool, true, false, not, cond, eqb, List, [], ◌∷◌, ◌++◌, length, drop, Some, None, sym, refl, ap, ◌∙◌, ⊎_elim, add-one, arith}
 use Rattle.std.proofs.lemmas.Bool.{and_parts, and_from, eq-eqb, ne_eqb, cond-true, cond-false, cases_Bool, cases_eq, lt-ltb, le-ltb}
-use Rattle.std.proofs.lemmas.List.{drop_more}
+use Rattle.std.specs.List.{position_from}
 use Rattle.stock.specs.Tables.{Table, every, width_of, rows_of}
 use Rattle.cells.specs.Cells.{stored}
 use Rattle.movements.specs.Moves.{row_fault, fault_from, add_cause, withdraw_cause}
 use Rattle.cells.specs.declared.cell.Cell.{Cell}
-use Rattle.cells.specs.declared.cell.Cell.TheVariants.{Null}
 
-module _ (row : List Cell) (i : ℕ) (l : i < length row) where
-  pub fault_more : stored (get_or row i Null) ≡ true → fault_from i (drop i row) ≡ fault_from (i + 1) (drop (i + 1) row)
-  fault_more e = ap (fault_from i) (drop_more row i Null l) ∙ cond-true (stored (get_or row i Null)) (fault_from (suc i) (drop (i + 1) row)) (Some i) e ∙ ap (λ k. fault_from k (drop (i + 1) row)) (sym (add-one i))
-
-  pub fault_here : stored (get_or row i Null) ≡ false → fault_from i (drop i row) ≡ Some i
-  fault_here e = ap (fault_from i) (drop_more row i Null l) ∙ cond-false (stored (get_or row i Null)) (fault_from (suc i) (drop (i + 1) row)) (Some i) e
+pub fault_by : (j : ℕ) (row : List Cell) → fault_from j row ≡ position_from (λ c. not (stored c)) j row
+fault_by j [] = refl
+fault_by j (c ∷ cs) =
+    elim (stored c) as (λ b. cond b (fault_from (suc j) cs) (Some j) ≡ cond (not b) (Some j) (position_from (λ x. not (stored x)) (j + 1) cs))
+    [ true ↦ fault_by (suc j) cs ∙ ap (λ k. position_from (λ x. not (stored x)) k cs) (sym (add-one j)) | false ↦ refl ]
 
 pub fault_is : (w : ℕ) (row : List Cell) → length row ≡ w → row_fault w row ≡ fault_from 0 row
 fault_is w row e = cond-true (eqb (length row) w) (fault_from 0 row) (Some (length row)) (eq-eqb (length row) w e)
 
-pub every_at : {X : Type 0} (test : X → Bool) (xs : List X) (i : ℕ) (d : X) → i < length xs → every test xs ≡ true → test (get_or xs i d) ≡ true
-every_at test [] i d l e = absurd (omega arith)
-every_at test (x ∷ xs) zero d l e = (and_parts (test x) (every test xs) e).0
-every_at test (x ∷ xs) (suc i) d l e = every_at test xs i d (omega arith) (and_parts (test x) (every test xs) e).1
+pub every_append : {X : Type 0} (test : X → Bool) (xs ys : List X) → every test xs ≡ true → every test ys ≡ true → every test (xs ++ ys) ≡ true
+every_append test [] ys e h = h
+every_append test (x ∷ xs) ys e h = let p = and_parts (test x) (every test xs) e in and_from (test x) (every test (xs ++ ys)) p.0 (every_append test xs ys p.1 h)
 
-pub every_set : {X : Type 0} (test : X → Bool) (xs : List X) (i : ℕ) (y : X) → every test xs ≡ true → test y ≡ true → every test (set xs i y) ≡ true
-every_set test [] i y e h = refl
-every_set test (x ∷ xs) zero y e h = and_from (test y) (every test xs) h (and_parts (test x) (every test xs) e).1
-every_set test (x ∷ xs) (suc i) y e h = let p = and_parts (test x) (every test xs) e in and_from (test x) (every test (set xs i y)) p.0 (every_set test xs i y p.1 h)
+pub every_drop : {X : Type 0} (test : X → Bool) (n : ℕ) (xs : List X) → every test xs ≡ true → every test (drop n xs) ≡ true
+every_drop test zero xs e = e
+every_drop test (suc n) [] e = refl
+every_drop test (suc n) (x ∷ xs) e = every_drop test n xs (and_parts (test x) (every test xs) e).1
 
 right_from : (j : ℕ) (row : List Cell) → fault_from j row ≡ None → every stored row ≡ true
 right_from j [] e = refl

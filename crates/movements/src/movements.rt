@@ -6,65 +6,36 @@ ghost use Rattle.movements.specs.Moves.{remaining, fewer, before, added_rows, ad
 ghost use Rattle.movements.specs.Moving.{moved_lawful};
 ghost use Rattle.movements.specs.Shown.{items_of, shown_by, shown, Uncut};
 
-use crate::bounded::Bounded;
 use crate::moved::{Added, Hidden};
+use arrayvec::ArrayVec;
 use cells::cell::Cell;
+use stock::limits::MOST_ROWS;
 use stock::stock::Stock;
 
 // How many added rows may stand, and how many rows below may be hidden, all tables together.
 pub const LIMIT: usize = 64;
 
-// How many rows a table may show.
-pub const MOST_ROWS: usize = 65535;
-
+// That no table is cut off stands in the clauses: as a fact of the type it would ask `S: Stock` of all who name the type.
 #[derive(Drop)]
 pub struct Movements<S> {
     pub(crate) below: S,
-    pub(crate) added: Bounded<Added, LIMIT>,
-    pub(crate) hidden: Bounded<Hidden, LIMIT>,
-}
-
-// How many of n rows one withdrawal leaves in a table.
-fn shrink(n: usize, h: Hidden, table: usize) -> usize
-    ensures { result ≡ fewer table h n }
-{
-    if h.table == table && h.place < n {
-        n - 1
-    } else {
-        n
-    }
-}
-
-// Where a row stood before one withdrawal.
-fn raise(q: usize, h: Hidden, table: usize) -> usize
-    requires { q < 131072 }
-    ensures { result ≡ before table h q }
-{
-    if h.table == table && h.place <= q {
-        q + 1
-    } else {
-        q
-    }
+    pub(crate) added: ArrayVec<Added, LIMIT>,
+    pub(crate) hidden: ArrayVec<Hidden, LIMIT>,
 }
 
 impl<S: Stock> Movements<S> {
     // No movements yet: the layer shows the rows below.
     pub fn over(below: S) -> Movements<S>
         ensures same { result.below ≡ below }
-        ensures adds { result.added.count ≡ 0 }
-        ensures hides { result.hidden.count ≡ 0 }
+        ensures adds { items_of result.added ≡ [] }
+        ensures hides { items_of result.hidden ≡ [] }
         ensures shows { shown S.Stock.tables result ≡ S.Stock.tables below }
         ensures uncut { Uncut S.Stock.tables result }
     {
-        let row = Added {
-            table: 0,
-            row: [Cell::Null; 8],
-        };
-        let place = Hidden { table: 0, place: 0 };
         Movements {
             below,
-            added: Bounded::none(row),
-            hidden: Bounded::none(place),
+            added: ArrayVec::new(),
+            hidden: ArrayVec::new(),
         }
     }
 
@@ -72,11 +43,9 @@ impl<S: Stock> Movements<S> {
     pub(crate) fn kept(&self, table: usize) -> usize
         ensures { result ≡ length (remaining table (items_of self.now.hidden) (rows_at (S.Stock.tables self.now.below) table)) }
     {
-        let mut n = self.below.row_count(table);
-        for i in 0..self.hidden.count {
-            n = shrink(n, self.hidden.at(i), table);
-        }
-        n
+        self.hidden
+            .iter()
+            .fold(self.below.row_count(table), |n, h| h.shrink(n, table))
     }
 
     // Where the row stands below that is shown at a place.
@@ -84,42 +53,30 @@ impl<S: Stock> Movements<S> {
         requires { place < 65536 }
         ensures { slice_index_or (remaining table (items_of self.now.hidden) (rows_at (S.Stock.tables self.now.below) table)) place [] ≡ slice_index_or (rows_at (S.Stock.tables self.now.below) table) result [] }
     {
-        let mut q = place;
-        let mut i = self.hidden.count;
-        while i > 0 {
-            i -= 1;
-            q = raise(q, self.hidden.at(i), table);
-        }
-        q
+        self.hidden
+            .iter()
+            .rev()
+            .fold(place, |q, h| h.raise(q, table))
     }
 
     // How many rows were added to a table.
     fn additions(&self, table: usize) -> usize
-        ensures { result ≡ added_count table (items_of self.now.added) }
+        ensures value { result ≡ added_count table (items_of self.now.added) }
+        ensures few { result ≤ LIMIT }
     {
-        let mut n: usize = 0;
-        for i in 0..self.added.count {
-            if self.added.at(i).table == table {
-                n += 1;
-            }
-        }
-        n
+        self.added.iter().filter(|m| m.table == table).count()
     }
 
     // The index of the row added to a table after k others.
     pub(crate) fn nth(&self, table: usize, k: usize) -> Option<usize>
         ensures { MatchOption result (added_count table (items_of self.now.added) ≤ k) (λ i. Nth table k (items_of self.now.added) i) }
     {
-        let mut n: usize = 0;
-        for i in 0..self.added.count {
-            if self.added.at(i).table == table {
-                if n == k {
-                    return Some(i);
-                }
-                n += 1;
-            }
-        }
-        None
+        let mut own = self
+            .added
+            .iter()
+            .enumerate()
+            .filter(|(_, m)| m.table == table);
+        own.nth(k).map(|(i, _)| i)
     }
 
     // The cell in a column of the row added to a table after k others.
@@ -129,13 +86,8 @@ impl<S: Stock> Movements<S> {
         if column >= self.below.width(table) {
             return Cell::Null;
         }
-        match self.nth(table, k) {
-            None => Cell::Null,
-            Some(i) => {
-                let m = self.added.at(i);
-                m.row[column]
-            }
-        }
+        let mut own = self.added.iter().filter(|m| m.table == table);
+        own.nth(k).map_or(Cell::Null, |m| m.row[column])
     }
 }
 
@@ -153,12 +105,10 @@ impl<S: Stock> Stock for Movements<S> {
     }
 
     fn row_count(&self, table: usize) -> usize {
-        if table < self.below.table_count() {
-            let n = self.kept(table) + self.additions(table);
-            if n < MOST_ROWS { n } else { MOST_ROWS }
-        } else {
-            0
+        if table >= self.below.table_count() {
+            return 0;
         }
+        (self.kept(table) + self.additions(table)).min(MOST_ROWS)
     }
 
     fn cell(&self, table: usize, place: usize, column: usize) -> Cell {

@@ -5,6 +5,7 @@ ghost use Rattle.cells.specs.Cells.{stored};
 ghost use Rattle.movements.specs.Moves.{row_fault};
 
 use cells::cell::Cell;
+use stock::limits::MOST_COLUMNS;
 
 // What is wrong with a row for a table of a width: its own width, or the first column at fault.
 pub(crate) fn fault(row: &[Cell], width: usize) -> Option<usize>
@@ -13,24 +14,17 @@ pub(crate) fn fault(row: &[Cell], width: usize) -> Option<usize>
     if row.len() != width {
         return Some(row.len());
     }
-    for i in 0..row.len() {
-        if !row[i].is_stored() {
-            return Some(i);
-        }
-    }
-    None
+    row.iter().position(|cell| !cell.is_stored())
 }
 
 // A row of at most eight cells, followed by NULLs.
-pub(crate) fn padded(row: &[Cell]) -> [Cell; 8]
+pub(crate) fn padded(row: &[Cell]) -> [Cell; MOST_COLUMNS]
     requires { (length row.now ≤ 8) × (every stored row.now ≡ true) }
     ensures long { length result ≡ 8 }
     ensures front { take (length row.now) result ≡ row.now }
     ensures numbers { every stored result ≡ true }
 {
-    let mut cells = [Cell::Null; 8];
-    for i in 0..row.len() {
-        cells[i] = row[i];
-    }
+    let mut cells = [Cell::Null; MOST_COLUMNS];
+    cells[..row.len()].copy_from_slice(row);
     cells
 }

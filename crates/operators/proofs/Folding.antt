@@ -1,5 +1,5 @@
 -- Aggregates row by row.
-use Rattle.std.proofs.Common.{◌≡◌, ℕ, ◌+◌, ◌-◌, ◌*◌, ◌<◌, ◌≤◌, Bool, true, false, cond, List, [], ◌∷◌, ◌++◌, map, length, get_or, take, drop, ℤ, pos, negsuc, ◌+ℤ◌, Some, None, filter, Option, sym, refl, ap, ◌∙◌, subst, ap₂, add-mul, one-mul, arith}
+use Rattle.std.proofs.Common.{◌≡◌, ℕ, ◌+◌, ◌-◌, ◌*◌, ◌<◌, ◌≤◌, true, false, cond, List, [], ◌∷◌, ◌++◌, map, length, get_or, take, ℤ, pos, negsuc, ◌+ℤ◌, None, filter, sym, refl, ap, ◌∙◌, subst, add-mul, one-mul, arith}
 use Rattle.std.proofs.lemmas.Int.{ints}
 use Rattle.std.proofs.lemmas.Bool.{ltb-true}
 use Rattle.std.proofs.ByRecursion.{All-get_or}
@@ -9,14 +9,10 @@ use Rattle.cells.specs.declared.cell.Cell.TheVariants.{Null, Number}
 use Rattle.lines.specs.Ops.{step_of, folded}
 use Rattle.lines.specs.declared.line.Aggregate.{Aggregate}
 use Rattle.lines.specs.declared.line.Aggregate.TheVariants.{Rows, Filled, Sum, Least, Greatest}
-use Rattle.operators.specs.Places.{row_at, rows_from, rows_in, region_end, next_row}
-use Rattle.operators.specs.Folds.{addable, Addable, adds, best_of, cell_from, result_of, Within, folded_alike}
-use Rattle.operators.specs.declared.folds.Running.{Running}
+use Rattle.operators.specs.Places.{row_at, rows_from, rows_in}
+use Rattle.operators.specs.Folds.{addable, Addable, adds, result_of, Within, folded_alike}
 use Rattle.operators.specs.declared.region.Region.{Region}
-use Rattle.operators.proofs.Stack.{row_front, rows_none, rows_first, rows_length, rows_get_or}
-
-zero_plus : (z : ℤ) → pos 0 +ℤ z ≡ z
-zero_plus z = omega (arith, ints)
+use Rattle.operators.proofs.Stack.{rows_none, rows_first, rows_length, rows_get_or}
 
 one_number : (z : ℤ) → stored (Number z) ≡ true → Within 1 z
 one_number (pos a) h = let l = ltb-true a 2147483648 h in record { low = omega (arith, ints); high = omega (arith, ints) }
@@ -40,34 +36,8 @@ adds_within Greatest c h = small_none
 pub within_more : (n : ℕ) (a s : ℤ) → Within 1 a → Within n s → Within (n + 1) (a +ℤ s)
 within_more n a s p q = record { low = omega (arith, ints, p.low, q.low); high = omega (arith, ints, p.high, q.high) }
 
-pub within_wide : (n m : ℕ) (s : ℤ) → n ≤ m → Within n s → Within m s
-within_wide n m s h q = record { low = omega (arith, ints, q.low); high = omega (arith, ints, q.high) }
-
 pub within_none : (n : ℕ) → Within n (pos 0)
 within_none n = record { low = omega (arith, ints); high = omega (arith, ints) }
-
-pub step_is : (f : Aggregate) (c : Cell) (r : Running) (s : ℤ) (b : Option ℤ) → s ≡ adds f c +ℤ r.sum → b ≡ best_of f c r.best → result_of f (record { sum = s; best = b }) ≡ step_of f c (result_of f r)
-step_is Rows c r s b e g = ap Number e
-step_is Filled Null r s b e g = ap Number (e ∙ zero_plus r.sum)
-step_is Filled (Number z) r s b e g = ap Number e
-step_is Sum Null r s b e g = ap Number (e ∙ zero_plus r.sum)
-step_is Sum (Number z) r s b e g = ap Number e
-step_is Least c r s b e g = ap cell_from g ∙ least c r.best
-  where
-    least : (c : Cell) (o : Option ℤ) → cell_from (best_of Least c o) ≡ step_of Least c (cell_from o)
-    least Null o = refl
-    least (Number a) None = refl
-    least (Number a) (Some z) = refl
-step_is Greatest c r s b e g = ap cell_from g ∙ greatest c r.best
-  where
-    greatest : (c : Cell) (o : Option ℤ) → cell_from (best_of Greatest c o) ≡ step_of Greatest c (cell_from o)
-    greatest Null o = refl
-    greatest (Number a) None = refl
-    greatest (Number a) (Some z) = refl
-
--- the test of the row after those in front
-pub begins_is : (xs : List Cell) (at n row : ℕ) (front : Region) (t : Bool) → row ≡ region_end front → n ≤ front.width → t ≡ same_row (row_at xs at n) (row_at xs row n) → same_row (row_at xs at n) (take n (next_row xs front)) ≡ t
-begins_is xs at n row front t e h k = ap (same_row (row_at xs at n)) (row_front xs (region_end front) n front.width h ∙ ap (λ (x : ℕ). row_at xs x n) (sym e)) ∙ sym k
 
 -- over one row more, at the front
 fold_first : (n : ℕ) (f : Aggregate) (k : ℕ) (d key x : Row) (xs : List Row) → folded_alike n f k d key (x ∷ xs) ≡ cond (same_row key (take n x)) (step_of f (get_or (d ++ x) k Null) (folded_alike n f k d key xs)) (folded_alike n f k d key xs)
@@ -97,20 +67,8 @@ fold_more n f k d key xs start j rows w before after some le b a =
     let e : rows_from xs (start + (j - 1) * w) (rows - (j - 1)) w ≡ x ∷ rows_from xs (start + j * w) (rows - j) w = ap (λ (y : ℕ). rows_from xs (start + (j - 1) * w) y w) m ∙ (rows_first xs (start + (j - 1) * w) (rows - j) w ∙ ap (λ (y : ℕ). x ∷ rows_from xs y (rows - j) w) p) in
     a ∙ (ap (λ (c : Cell). cond (same_row key (take n x)) (step_of f (get_or (d ++ x) k Null) c) c) b ∙ (sym (fold_first n f k d key x (rows_from xs (start + j * w) (rows - j) w)) ∙ ap (folded_alike n f k d key) (sym e)))
 
-pub fold_all : (n : ℕ) (f : Aggregate) (k : ℕ) (d key : Row) (xs : List Cell) (r : Region) (j : ℕ) → j ≤ 0 → folded_alike n f k d key (rows_from xs (r.start + j * r.width) (r.rows - j) r.width) ≡ folded_alike n f k d key (rows_in xs r)
-fold_all n f k d key xs r j h =
-    let z : j ≡ 0 = omega arith in
-    let a : r.start + 0 * r.width ≡ r.start = omega arith in
-    let b : r.rows - 0 ≡ r.rows = omega arith in
-    ap (λ (i : ℕ). folded_alike n f k d key (rows_from xs (r.start + i * r.width) (r.rows - i) r.width)) z
-    ∙ ap₂ (λ (i m : ℕ). folded_alike n f k d key (rows_from xs i m r.width)) a b
-
 pub addable_at : (f : Aggregate) (k : ℕ) (d : Row) (xs : List Cell) (r : Region) (j : ℕ) → j < r.rows → Addable f k d (rows_in xs r) → addable f (get_or (d ++ row_at xs (r.start + j * r.width) r.width) k Null) ≡ true
 addable_at f k d xs r j h a =
     let l : j < length (rows_in xs r) = omega (arith, rows_length xs r.start r.rows r.width) in
     let P : Row → Type 0 = λ x. addable f (get_or (d ++ x) k Null) ≡ true in
     subst P (rows_get_or xs r.start r.rows r.width j [] h) (All-get_or P (rows_in xs r) j [] l a)
-
--- the row as a part of the cells
-pub part_is : (d xs : List Cell) (row : ℕ) (front : Region) (k : ℕ) → row ≡ region_end front → get_or (d ++ take ((row + front.width) - row) (drop row xs)) k Null ≡ get_or (d ++ next_row xs front) k Null
-part_is d xs row front k e = let w : (row + front.width) - row ≡ front.width = omega arith in ap₂ (λ (a v : ℕ). get_or (d ++ take v (drop a xs)) k Null) e w

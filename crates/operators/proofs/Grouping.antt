@@ -1,25 +1,17 @@
 -- Rows in groups.
-use Rattle.std.proofs.Common.{◌≡◌, ℕ, ◌+◌, ◌*◌, ◌<◌, ◌≤◌, Bool, true, false, cond, not, ◌||◌, List, [], ◌∷◌, ◌++◌, map, length, take, filter, sym, refl, ap, ◌∙◌, subst, ap₂, one-mul, le-mul_of_pos_right, arith}
+use Rattle.std.proofs.Common.{◌≡◌, ℕ, ◌+◌, ◌≤◌, Bool, true, false, cond, not, ◌||◌, List, [], ◌∷◌, ◌++◌, map, length, take, filter, sym, refl, ap, ◌∙◌, subst, ap₂}
 use Rattle.std.proofs.lemmas.List.{map_push}
-use Rattle.std.proofs.lemmas.Bool.{cond-true, cond-false}
 use Rattle.cells.specs.Cells.{Row, same_row}
 use Rattle.cells.specs.declared.cell.Cell.{Cell}
 use Rattle.lines.specs.Ops.{alike, some_of, folded, group_rows}
 use Rattle.lines.specs.declared.line.Aggregate.{Aggregate}
-use Rattle.operators.specs.Places.{row_at, rows_in, region_end, next_row, Stands, Room}
+use Rattle.operators.specs.Places.{row_at, rows_in, region_end, next_row, Stands}
 use Rattle.operators.specs.Laid.{Laid, Put}
 use Rattle.operators.specs.Steps.{each, kept_one}
 use Rattle.operators.specs.Folds.{Addable, folded_alike, grouped}
 use Rattle.operators.specs.declared.region.Region.{Region}
 use Rattle.operators.proofs.Stack.{row_front, rows_below, put_join, laid_none, laid_one}
-use Rattle.operators.proofs.Filtering.{shared_is}
 use Rattle.operators.proofs.Meaning.{new, each_distinct}
-
-pub few_rows : (r : Region) (cells : List Cell) (out : ℕ) → Stands r out → Room cells out → r.rows ≤ 65536
-few_rows r cells out s o = omega (arith, le-mul_of_pos_right r.rows s.wide, s.inside, o.room, o.few)
-
-pub stands_in : (r : Region) (cells : List Cell) (out : ℕ) → Stands r out → out ≤ length cells → Stands r (length cells)
-stands_in r cells out s o = record { wide = s.wide; narrow = s.narrow; inside = omega (arith, s.inside) }
 
 kept_every : (xs : List Row) → filter (λ r. same_row [] (take 0 r)) xs ≡ xs
 kept_every [] = refl
@@ -33,24 +25,18 @@ fold_every f k d xs cells at = ap (λ (ys : List Row). folded f k (map (λ r. d 
 abbrev group_row : ℕ → Aggregate → ℕ → Row → List Row → Row → Row
 group_row n f k d xs key = key ++ (folded_alike n f k d key xs ∷ [])
 
-pub group_none : (n : ℕ) (f : Aggregate) (k : ℕ) (d : Row) (xs : List Row) (cells : List Cell) (front : Region) (at to : ℕ) → at ≡ region_end front → n ≤ front.width → to ≤ length cells
-    → true ≡ some_of (alike n (row_at cells at n)) (rows_in cells front) → Laid cells cells to 0 (n + 1) (grouped n f k d xs (rows_in cells front) (next_row cells front))
-group_none n f k d xs cells front at to e h o t =
-    rw (cond-true (some_of (alike n (next_row cells front)) (rows_in cells front)) [] (group_row n f k d xs (take n (next_row cells front)) ∷ []) (sym (shared_is cells front at n (rows_in cells front) e h) ∙ sym t)) (laid_none cells to (n + 1) o)
+pub group_none : (n : ℕ) (f : Aggregate) (k : ℕ) (d : Row) (xs : List Row) (cells : List Cell) (front : Region) (to : ℕ) → to ≤ length cells
+    → true ≡ some_of (alike n (next_row cells front)) (rows_in cells front) → Laid cells cells to 0 (n + 1) (grouped n f k d xs (rows_in cells front) (next_row cells front))
+group_none n f k d xs cells front to o t = rw (← t) (laid_none cells to (n + 1) o)
 
 group_new : (n : ℕ) (f : Aggregate) (k : ℕ) (d : Row) (xs : List Row) (cells : List Cell) (front : Region) (at : ℕ) → at ≡ region_end front → n ≤ front.width
-    → false ≡ some_of (alike n (row_at cells at n)) (rows_in cells front) → grouped n f k d xs (rows_in cells front) (next_row cells front) ≡ group_row n f k d xs (row_at cells at n) ∷ []
+    → false ≡ some_of (alike n (next_row cells front)) (rows_in cells front) → grouped n f k d xs (rows_in cells front) (next_row cells front) ≡ group_row n f k d xs (row_at cells at n) ∷ []
 group_new n f k d xs cells front at e h t =
     let key : take n (next_row cells front) ≡ row_at cells at n = row_front cells (region_end front) n front.width h ∙ ap (λ (x : ℕ). row_at cells x n) (sym e) in
-    cond-false (some_of (alike n (next_row cells front)) (rows_in cells front)) [] (group_row n f k d xs (take n (next_row cells front)) ∷ []) (sym (shared_is cells front at n (rows_in cells front) e h) ∙ sym t)
-    ∙ ap (λ (r : Row). group_row n f k d xs r ∷ []) key
-
-pub group_over : (n : ℕ) (f : Aggregate) (k : ℕ) (d : Row) (xs : List Row) (cells : List Cell) (front : Region) (at to : ℕ) → at ≡ region_end front → n ≤ front.width → length cells < to + (n + 1)
-    → false ≡ some_of (alike n (row_at cells at n)) (rows_in cells front) → length cells < to + length (grouped n f k d xs (rows_in cells front) (next_row cells front)) * (n + 1)
-group_over n f k d xs cells front at to e h o t = rw (group_new n f k d xs cells front at e h t) (omega (arith, one-mul (n + 1)))
+    rw (← t) (ap (λ (r : Row). group_row n f k d xs r ∷ []) key)
 
 pub group_laid : (n : ℕ) (f : Aggregate) (k : ℕ) (d : Row) (xs : List Row) (cells x y : List Cell) (front : Region) (at to : ℕ) (cell : Cell) → at ≡ region_end front → n ≤ front.width
-    → false ≡ some_of (alike n (row_at cells at n)) (rows_in cells front) → cell ≡ folded_alike n f k d (row_at cells at n) xs
+    → false ≡ some_of (alike n (next_row cells front)) (rows_in cells front) → cell ≡ folded_alike n f k d (row_at cells at n) xs
     → Put cells x to n (row_at cells at n) → Put x y (to + n) 1 (cell ∷ []) → Laid cells y to 1 (n + 1) (grouped n f k d xs (rows_in cells front) (next_row cells front))
 group_laid n f k d xs cells x y front at to cell e h t c p q =
     let P : Cell → Type 0 = λ z. Put cells y to (n + 1) (row_at cells at n ++ (z ∷ [])) in

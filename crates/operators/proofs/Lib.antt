@@ -3,7 +3,7 @@ pub mod Puts
 pub mod Blocks
 pub mod Reshaping
 pub mod Sames
-pub mod Filtering
+pub mod Turning
 pub mod Meaning
 pub mod Pairing
 pub mod Folding

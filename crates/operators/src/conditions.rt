@@ -1,60 +1,100 @@
 // Conditions, worked out over a long row: the context, then a row. They take no cells.
-ghost use Rattle.std.specs.Prelude.{◌≡◌, ◌<◌, ◌++◌, length, slice_index_or};
+ghost use Rattle.std.specs.Prelude.{◌≡◌, ◌<◌, List, ◌++◌, length, slice_index_or};
+ghost use Rattle.cells.specs.declared.cell.Cell.{Cell};
 ghost use Rattle.cells.specs.declared.cell.Cell.TheVariants.{Null};
 ghost use Rattle.lines.specs.Trees.{side_at, truth_at};
 ghost use Rattle.lines.specs.Shapes.{Ordered};
-ghost use Rattle.operators.specs.Steps.{condition_at};
+ghost use Rattle.operators.specs.Places.{next_row, Next};
+ghost use Rattle.operators.specs.Conditions.{condition_at, Ordered-prop};
 
+use crate::region::Region;
 use cells::cell::Cell;
 use cells::truth::Truth;
 use lines::line::{Line, Side};
+use std::marker::Model;
 
-// A column of the long row; NULL past its end.
-pub fn long_cell(context: &[Cell], row: &[Cell], column: usize) -> Cell
-    ensures { result ≡ slice_index_or (context.now ++ row.now) column Null }
-{
-    if column < context.len() {
-        context[column]
-    } else if column - context.len() < row.len() {
-        row[column - context.len()]
-    } else {
-        Cell::Null
+// The context and a row, seen as one row.
+#[derive(Drop)]
+pub struct LongRow<'a> {
+    pub context: &'a [Cell],
+    pub row: &'a [Cell],
+}
+
+impl<'a> Model for LongRow<'a> {
+    ghost Value = { List Cell };
+
+    ghost view = { λ r. r.context.now ++ r.row.now };
+}
+
+impl<'a> LongRow<'a> {
+    // The context with the row that lies behind those in front.
+    pub(crate) fn after(context: &'a [Cell], cells: &'a [Cell], front: Region) -> LongRow<'a>
+        requires { Next front (length cells.now) }
+        ensures { result ≡ context.now ++ next_row cells.now front }
+    {
+        let at = front.end();
+        LongRow {
+            context,
+            row: &cells[at..at + front.width],
+        }
     }
 }
 
-pub(crate) fn side_cell(side: Side, context: &[Cell], row: &[Cell]) -> Cell
-    ensures { result ≡ side_at side (context.now ++ row.now) }
-{
-    match side {
-        Side::Column(column) => long_cell(context, row, column),
-        Side::Constant(number) => Cell::Number(number),
+impl LongRow<'_> {
+    // A column's cell; NULL past its end.
+    pub fn cell(&self, column: usize) -> Cell
+        ensures { result ≡ slice_index_or self.now column Null }
+    {
+        let context = self.context;
+        if column < context.len() {
+            context[column]
+        } else {
+            self.row
+                .get(column - context.len())
+                .copied()
+                .unwrap_or(Cell::Null)
+        }
+    }
+
+    pub(crate) fn side(&self, side: Side) -> Cell
+        ensures { result ≡ side_at side self.now }
+    {
+        match side {
+            Side::Column(column) => self.cell(column),
+            Side::Constant(number) => Cell::Number(number),
+        }
     }
 }
 
-// The truth of the condition on a line. Of a line with rows, which no condition reads, it is that of column 0 being NULL.
-pub(crate) fn truth_at(lines: &[Line], i: usize, context: &[Cell], row: &[Cell]) -> Truth
-    requires ordered { Ordered lines.now }
-    requires within { i < length lines.now }
-    ensures { result ≡ truth_at (condition_at lines.now i) (context.now ++ row.now) }
-{
-    match lines[i] {
-        Line::Compare { sign, left, right } => sign.compare(
-            side_cell(left, context, row),
-            side_cell(right, context, row),
-        ),
-        Line::IsNull { column } => Truth::of(long_cell(context, row, column).is_null()),
-        Line::Not { condition } => truth_at(lines, condition, context, row).not(),
-        Line::Unknown { condition } => truth_at(lines, condition, context, row).unknown(),
-        Line::And { left, right } => {
-            let first = truth_at(lines, left, context, row);
-            let second = truth_at(lines, right, context, row);
-            first.and(second)
+// A condition on a line. Its operands are lower lines.
+#[derive(Clone, Copy)]
+pub struct Condition<'a> {
+    pub lines: &'a [Line],
+    pub line: usize,
+    pub ghost ordered: { Ordered lines.now } by { Ordered-prop lines.now },
+    pub ghost within: { line < length lines.now },
+}
+
+impl Condition<'_> {
+    pub(crate) fn truth(&self, row: &LongRow) -> Truth
+        ensures { result ≡ truth_at (condition_at self.now.lines.now self.now.line) row.now }
+    {
+        self.truth_on(self.line, row)
+    }
+
+    // The truth of the condition on a line. Of a line with rows, which no condition reads, it is that of column 0 being NULL.
+    fn truth_on(&self, line: usize, row: &LongRow) -> Truth
+        requires { line < length self.now.lines.now }
+        ensures { result ≡ truth_at (condition_at self.now.lines.now line) row.now }
+    {
+        match self.lines[line] {
+            Line::Compare { sign, left, right } => sign.compare(row.side(left), row.side(right)),
+            Line::IsNull { column } => Truth::from(row.cell(column).is_null()),
+            Line::Not { condition } => self.truth_on(condition, row).not(),
+            Line::Unknown { condition } => self.truth_on(condition, row).unknown(),
+            Line::And { left, right } => self.truth_on(left, row).and(self.truth_on(right, row)),
+            Line::Or { left, right } => self.truth_on(left, row).or(self.truth_on(right, row)),
+            _ => Truth::from(row.cell(0).is_null()),
         }
-        Line::Or { left, right } => {
-            let first = truth_at(lines, left, context, row);
-            let second = truth_at(lines, right, context, row);
-            first.or(second)
-        }
-        _ => Truth::of(long_cell(context, row, 0).is_null()),
     }
 }

@@ -7,10 +7,11 @@ ghost use Rattle.operators.specs.Places.{row_at, rows_in, next_row, Stands, Next
 ghost use Rattle.operators.specs.Laid.{Lays};
 ghost use Rattle.operators.specs.Folds.{addable, Addable, adds, best_of, result_of, Within, folded_alike, grouped};
 
-use crate::conditions::long_cell;
+use crate::conditions::LongRow;
 use crate::filters::has_alike;
-use crate::moves::{copy, put, same_cells};
-use crate::region::Region;
+use crate::moves::{copy, fits, put, same_cells};
+use crate::region::{Operands, Region};
+use crate::turns::lay_each;
 use cells::cell::Cell;
 use lines::line::Aggregate;
 
@@ -38,8 +39,8 @@ fn better(aggregate: Aggregate, cell: Cell, best: Option<i64>) -> Option<i64>
     ensures { result ≡ best_of aggregate cell best }
 {
     match (aggregate, cell, best) {
-        (Aggregate::Least, Cell::Number(a), Some(b)) => Some(if a < b { a } else { b }),
-        (Aggregate::Greatest, Cell::Number(a), Some(b)) => Some(if a < b { b } else { a }),
+        (Aggregate::Least, Cell::Number(a), Some(b)) => Some(a.min(b)),
+        (Aggregate::Greatest, Cell::Number(a), Some(b)) => Some(a.max(b)),
         (Aggregate::Least | Aggregate::Greatest, Cell::Number(a), None) => Some(a),
         _ => best,
     }
@@ -80,157 +81,122 @@ impl Running {
     }
 }
 
-// One row on: that after the ones in front, if it begins with the n cells at `at`.
-fn step_row(
-    running: Running,
-    aggregate: Aggregate,
-    column: usize,
-    context: &[Cell],
-    cells: &[Cell],
-    at: usize,
-    n: usize,
-    front: Region,
-) -> Running
-    requires next { Next front (length cells.now) }
-    requires key { at + n ≤ length cells.now }
-    requires keys { n ≤ front.width }
-    requires addable { addable aggregate (slice_index_or (context.now ++ next_row cells.now front) column Null) ≡ true }
-    requires few { Within 65535 running.sum }
-    ensures value { result_of aggregate result ≡ cond (same_row (row_at cells.now at n) (take n (next_row cells.now front)))
-        (step_of aggregate (slice_index_or (context.now ++ next_row cells.now front) column Null) (result_of aggregate running)) (result_of aggregate running) }
-    ensures within { (n : ℕ) → Within n running.sum → Within (n + 1) result.sum }
-{
-    let row = front.end();
-    if !same_cells(cells, at, row, n) {
-        return running;
-    }
-    running.step(
-        aggregate,
-        long_cell(context, &cells[row..row + front.width], column),
-    )
+// An aggregate over a column of long rows. What a sum may add is a fact of the rows too, so each method asks it of those it is given.
+#[derive(Clone, Copy)]
+pub struct Fold<'a> {
+    pub aggregate: Aggregate,
+    pub column: usize,
+    pub context: &'a [Cell],
 }
 
-// The aggregate over the rows that begin with the n cells at `at`.
-fn fold_alike(
-    aggregate: Aggregate,
-    column: usize,
-    context: &[Cell],
-    cells: &[Cell],
-    at: usize,
-    n: usize,
-    rows: Region,
-) -> Cell
-    requires rows { Stands rows (length cells.now) }
-    requires few { rows.rows ≤ 65536 }
-    requires key { at + n ≤ length cells.now }
-    requires keys { n ≤ rows.width }
-    requires addable { Addable aggregate column context.now (rows_in cells.now rows) }
-    ensures { result ≡ folded_alike n aggregate column context.now (row_at cells.now at n) (rows_in cells.now rows) }
-{
-    let mut running = Running { sum: 0, best: None };
-    for j in (0..rows.rows).rev() {
-        let front = Region {
-            start: rows.start,
-            rows: j,
-            width: rows.width,
+impl Fold<'_> {
+    // One row on: that after the ones in front, if it begins with the n cells at `at`.
+    fn step_row(
+        &self,
+        running: Running,
+        cells: &[Cell],
+        at: usize,
+        n: usize,
+        front: Region,
+    ) -> Running
+        requires next { Next front (length cells.now) }
+        requires key { at + n ≤ length cells.now }
+        requires keys { n ≤ front.width }
+        requires addable { addable self.now.aggregate (slice_index_or (self.now.context.now ++ next_row cells.now front) self.now.column Null) ≡ true }
+        requires few { Within 65535 running.sum }
+        ensures value { result_of self.now.aggregate result ≡ cond (same_row (row_at cells.now at n) (take n (next_row cells.now front)))
+            (step_of self.now.aggregate (slice_index_or (self.now.context.now ++ next_row cells.now front) self.now.column Null) (result_of self.now.aggregate running)) (result_of self.now.aggregate running) }
+        ensures within { (n : ℕ) → Within n running.sum → Within (n + 1) result.sum }
+    {
+        if !same_cells(cells, at, front.end(), n) {
+            return running;
+        }
+        let row = LongRow::after(self.context, cells, front);
+        running.step(self.aggregate, row.cell(self.column))
+    }
+
+    // The aggregate over the rows that begin with the n cells at `at`.
+    fn alike(&self, cells: &[Cell], at: usize, n: usize, rows: Region) -> Cell
+        requires rows { Stands rows (length cells.now) }
+        requires few { rows.rows ≤ 65536 }
+        requires key { at + n ≤ length cells.now }
+        requires keys { n ≤ rows.width }
+        requires addable { Addable self.now.aggregate self.now.column self.now.context.now (rows_in cells.now rows) }
+        ensures { result ≡ folded_alike n self.now.aggregate self.now.column self.now.context.now (row_at cells.now at n) (rows_in cells.now rows) }
+    {
+        // That each sum fits and what it is go by one invariant here; a fold would leave an induction for each.
+        let mut running = Running { sum: 0, best: None };
+        for j in (0..rows.rows).rev() {
+            running = self.step_row(running, cells, at, n, rows.front(j));
+        }
+        running.finish(self.aggregate)
+    }
+
+    // One row of one cell: the aggregate over all rows.
+    pub fn total(&self, cells: &mut [Cell], rows: Region, out: usize) -> Option<usize>
+        requires rows { Stands rows out }
+        requires addable { Addable self.now.aggregate self.now.column self.now.context.now (rows_in cells.old rows) }
+        requires room { Room cells.old out }
+        ensures { Lays cells.old cells.new out 1
+            ((folded self.now.aggregate self.now.column (map (λ x. self.now.context.now ++ x) (rows_in cells.old rows)) ∷ []) ∷ []) result }
+    {
+        fits(cells, out, 1)?;
+        let cell = self.alike(cells, out, 0, rows);
+        put(cells, out, cell);
+        Some(1)
+    }
+
+    // Lays the row's first columns with the aggregate over the rows that share them, if no row in front has them.
+    fn group_row(
+        &self,
+        cells: &mut [Cell],
+        front: Region,
+        rows: Region,
+        keys: usize,
+        to: usize,
+    ) -> Option<usize>
+        requires next { Next front to }
+        requires rows { Stands rows to }
+        requires front_keys { keys ≤ front.width }
+        requires keys { keys ≤ rows.width }
+        requires addable { Addable self.now.aggregate self.now.column self.now.context.now (rows_in cells.old rows) }
+        requires room { Room cells.old to }
+        ensures { Lays cells.old cells.new to (keys + 1)
+            (grouped keys self.now.aggregate self.now.column self.now.context.now (rows_in cells.old rows) (rows_in cells.old front) (next_row cells.old front)) result }
+    {
+        let same = Operands {
+            left: front,
+            right: front,
+            shared: keys,
         };
-        running = step_row(running, aggregate, column, context, cells, at, n, front);
+        if has_alike(cells, same) {
+            return Some(0);
+        }
+        fits(cells, to, keys + 1)?;
+        let at = front.end();
+        let cell = self.alike(cells, at, keys, rows);
+        copy(cells, at, to, keys);
+        put(cells, to + keys, cell);
+        Some(1)
     }
-    running.finish(aggregate)
-}
 
-// One row of one cell: the aggregate over all rows.
-pub fn total(
-    context: &[Cell],
-    cells: &mut [Cell],
-    rows: Region,
-    aggregate: Aggregate,
-    column: usize,
-    out: usize,
-) -> Option<usize>
-    requires rows { Stands rows out }
-    requires addable { Addable aggregate column context.now (rows_in cells.old rows) }
-    requires room { Room cells.old out }
-    ensures { Lays cells.old cells.new out 1
-        ((folded aggregate column (map (λ x. context.now ++ x) (rows_in cells.old rows)) ∷ []) ∷ []) result }
-{
-    if cells.len() == out {
-        return None;
-    }
-    let cell = fold_alike(aggregate, column, context, cells, out, 0, rows);
-    put(cells, out, cell);
-    Some(1)
-}
-
-// Lays the row's first columns with the aggregate over the rows that share them, if no row in front has them.
-fn group_row(
-    context: &[Cell],
-    cells: &mut [Cell],
-    front: Region,
-    rows: Region,
-    keys: usize,
-    aggregate: Aggregate,
-    column: usize,
-    to: usize,
-) -> Option<usize>
-    requires next { Next front to }
-    requires rows { Stands rows to }
-    requires front_keys { keys ≤ front.width }
-    requires keys { keys ≤ rows.width }
-    requires addable { Addable aggregate column context.now (rows_in cells.old rows) }
-    requires room { Room cells.old to }
-    ensures { Lays cells.old cells.new to (keys + 1)
-        (grouped keys aggregate column context.now (rows_in cells.old rows) (rows_in cells.old front) (next_row cells.old front)) result }
-{
-    let at = front.end();
-    if has_alike(cells, at, keys, front) {
-        return Some(0);
-    }
-    if cells.len() - to < keys + 1 {
-        return None;
-    }
-    let cell = fold_alike(aggregate, column, context, cells, at, keys, rows);
-    copy(cells, at, to, keys);
-    put(cells, to + keys, cell);
-    Some(1)
-}
-
-// For each different start of a row, by first appearance, this and the aggregate over its rows.
-pub fn group(
-    context: &[Cell],
-    cells: &mut [Cell],
-    rows: Region,
-    keys: usize,
-    aggregate: Aggregate,
-    column: usize,
-    out: usize,
-) -> Option<usize>
-    requires rows { Stands rows out }
-    requires keys { keys ≤ rows.width }
-    requires addable { Addable aggregate column context.now (rows_in cells.old rows) }
-    requires room { Room cells.old out }
-    ensures { Lays cells.old cells.new out (keys + 1)
-        (group_rows keys aggregate column context.now (rows_in cells.old rows)) result }
-{
-    let w = keys + 1;
-    let mut k = 0;
-    for i in 0..rows.rows {
-        let front = Region {
-            start: rows.start,
-            rows: i,
-            width: rows.width,
-        };
-        let more = group_row(
-            context,
+    // For each different start of a row, by first appearance, this and the aggregate over its rows.
+    pub fn group(&self, cells: &mut [Cell], rows: Region, keys: usize, out: usize) -> Option<usize>
+        requires rows { Stands rows out }
+        requires keys { keys ≤ rows.width }
+        requires addable { Addable self.now.aggregate self.now.column self.now.context.now (rows_in cells.old rows) }
+        requires room { Room cells.old out }
+        ensures { Lays cells.old cells.new out (keys + 1)
+            (group_rows keys self.now.aggregate self.now.column self.now.context.now (rows_in cells.old rows)) result }
+    {
+        lay_each(
             cells,
-            front,
             rows,
-            keys,
-            aggregate,
-            column,
-            out + k * w,
-        )?;
-        k += more;
+            keys + 1,
+            out,
+            |cells: &mut [Cell], front: Region, to: usize| {
+                self.group_row(cells, front, rows, keys, to)
+            },
+        )
     }
-    Some(k)
 }

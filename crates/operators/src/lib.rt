@@ -1,4 +1,6 @@
 // The operators of lines over lent cells: each reads its operands' rows where they lie and lays its result's rows behind them.
+// It gives how many rows it laid, or None where the cells run out. The cells and the place to lay at stay two parameters: the cells are lent for a whole call,
+// in which the place moves on with each row.
 #![tactic(auto)]
 
 pub mod conditions;
@@ -10,3 +12,4 @@ pub mod region;
 pub mod reshapes;
 pub mod sources;
 pub mod tables;
+mod turns;

@@ -4,7 +4,7 @@ ghost use Rattle.cells.specs.declared.cell.Cell.TheVariants.{Number};
 ghost use Rattle.operators.specs.Places.{rows_in, Stands, Room};
 ghost use Rattle.operators.specs.Laid.{Lays};
 
-use crate::moves::copy;
+use crate::moves::{copy, fits, put};
 use crate::region::Region;
 use cells::cell::Cell;
 
@@ -13,10 +13,8 @@ pub fn unit(cells: &mut [Cell], out: usize) -> Option<usize>
     requires room { Room cells.old out }
     ensures { Lays cells.old cells.new out 1 ((Number (pos 0) ∷ []) ∷ []) result }
 {
-    if cells.len() == out {
-        return None;
-    }
-    cells[out] = Cell::Number(0);
+    fits(cells, out, 1)?;
+    put(cells, out, Cell::Number(0));
     Some(1)
 }
 
@@ -30,9 +28,7 @@ pub fn union(cells: &mut [Cell], left: Region, right: Region, out: usize) -> Opt
 {
     let first = left.rows * left.width;
     let second = right.rows * right.width;
-    if cells.len() - out < first + second {
-        return None;
-    }
+    fits(cells, out, first + second)?;
     copy(cells, left.start, out, first);
     copy(cells, right.start, out + first, second);
     Some(left.rows + right.rows)

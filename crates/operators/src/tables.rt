@@ -4,17 +4,18 @@ ghost use Rattle.stock.specs.Tables.{width_of, rows_of, rows_at};
 ghost use Rattle.operators.specs.Places.{Room};
 ghost use Rattle.operators.specs.Laid.{Put, Lays};
 
+use crate::moves::fits;
 use cells::cell::Cell;
 use stock::stock::Stock;
 
-// The row at a place, laid at `to`.
-fn table_row<S: Stock>(stock: &S, table: usize, place: usize, cells: &mut [Cell], to: usize)
-    requires room { to + width_of (S.Stock.tables stock.now) table ≤ length cells.old }
+// Lays the table's row at a place over `row`, which has a cell for each of its columns.
+fn table_row<S: Stock>(stock: &S, table: usize, place: usize, row: &mut [Cell])
+    requires wide { length row.old ≡ width_of (S.Stock.tables stock.now) table }
     requires shown { place < rows_of (S.Stock.tables stock.now) table }
-    ensures { Put cells.old cells.new to (width_of (S.Stock.tables stock.now) table) (slice_index_or (rows_at (S.Stock.tables stock.now) table) place []) }
+    ensures { row.new ≡ slice_index_or (rows_at (S.Stock.tables stock.now) table) place [] }
 {
-    for column in 0..stock.width(table) {
-        cells[to + column] = stock.cell(table, place, column);
+    for (column, cell) in row.iter_mut().enumerate() {
+        *cell = stock.cell(table, place, column);
     }
 }
 
@@ -25,11 +26,11 @@ pub fn table<S: Stock>(stock: &S, table: usize, cells: &mut [Cell], out: usize) 
 {
     let rows = stock.row_count(table);
     let width = stock.width(table);
-    if cells.len() - out < rows * width {
-        return None;
-    }
+    fits(cells, out, rows * width)?;
+    // A table outside the stock has no column, and no chunk of cells may be so narrow.
     for place in 0..rows {
-        table_row(stock, table, place, cells, out + place * width);
+        let to = out + place * width;
+        table_row(stock, table, place, &mut cells[to..to + width]);
     }
     Some(rows)
 }

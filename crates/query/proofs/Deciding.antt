@@ -108,10 +108,11 @@ module _ (ls : List Line) (ws : List ℕ) where
   accept P NoRoom = λ z. z
   accept P (BadTable n) = λ z. z
 
-  -- 1 to 4
-  pub refuse1 : ((1 ≤ length ls) × (length ls ≤ 32) → ⊥) → Refused ls ws (LineCount (length ls))
-  refuse1 h = refuse 0 (length ls) (LineCount (length ls)) (omega arith) refl refl refl none_passed (refl, h) (λ j l z. omega (arith, z.0))
+  -- what the first fault of a kind is refused with
+  pub refuse_with : (K : ℕ → Refusal) (p : ℕ → Bool) (e : Refusal) → ((i : ℕ) → First p (length ls) i → Refused ls ws (K i)) → (i : ℕ) × First p (length ls) i × (e ≡ K i) → Refused ls ws e
+  refuse_with K p e f q = rw q.2 (f q.0 q.1)
 
+  -- 1 to 4
   pub passed1 : 1 ≤ length ls → length ls ≤ 32 → Passed ls ws 1
   passed1 h k = pass 0 (omega arith) none_passed (λ j z. z.1 (omega (arith, z.0), omega (arith, z.0)))
 

@@ -1,14 +1,15 @@
 -- Widths.
-use Rattle.std.proofs.Common.{◌≡◌, ℕ, ◌+◌, ◌<◌, ◌≤◌, true, false, cond, eqb, leb, List, [], length, get_or, set, replicate, refl, ap, ◌∙◌, inl, inr, arith}
+use Rattle.std.proofs.Common.{◌≡◌, ℕ, zero, suc, ◌+◌, ◌-◌, ◌*◌, ◌^◌, ◌<◌, ◌≤◌, false, leb, List, [], ◌∷◌, ◌++◌, length, get_or, replicate, sym, refl, ap, ◌∙◌, inl, inr, pow-suc, add-one, arith, pow_pos, below_more}
+use Rattle.std.proofs.Math.Pow.{pow_mono}
 use Rattle.std.proofs.lemmas.Bool.{and_parts, not-false, leb-true, cases_lt}
-use Rattle.std.proofs.lemmas.List.{get_or_past, get_or-replicate, length-replicate, length-set}
+use Rattle.std.proofs.lemmas.List.{get_or_past, get_or_append_left, get_or-append_right, get_or-replicate, length-replicate}
 use Rattle.lines.specs.declared.line.Line.TheVariants.{And, AntiMatch, ApplyAll, ApplyAnti, ApplyCross, ApplyOuter, ApplySemi, ApplySome, Compare, Diff, Distinct, Extend, ExtendTruth, Group, IsNull, Keep, Match, Not, Or, Pad, Select, SemiMatch, Table as TableL, Total, Union, Unit as UnitL, Unknown as UnknownL}
 use Rattle.lines.specs.declared.line.Line.{Line}
-use Rattle.lines.specs.Shapes.{Lower, line_at, width_at}
+use Rattle.lines.specs.Shapes.{Lower, Ordered, line_at, width_at}
 use Rattle.lines.specs.Lines.{Node, as_rows, at, build, grow}
-use Rattle.query.specs.Fits.{Slim, misfit, width_by}
+use Rattle.query.specs.Fits.{Slim, misfit, unfit, width_by}
+use Rattle.query.specs.Working.{listed}
 use Rattle.lines.specs.Trees.{width}
-use Rattle.query.proofs.Handing.{put_one}
 use Rattle.lines.proofs.Growing.{node_is}
 
 pub misfit_below : (i : ℕ) (u w : ℕ → ℕ) (l : Line) → Lower i l → ((a : ℕ) → a < i → u a ≡ w a) → misfit u l ≡ misfit w l
@@ -134,9 +135,40 @@ width_small ws w B (Or a b) sl g h e = omega arith
 pub zeros : (n i : ℕ) → ◌≡◌ {A = ℕ} (get_or (replicate n 0) i 0) 0
 zeros n i = elim (cases_lt i n) [ inl h ↦ get_or-replicate n i 0 0 h | inr h ↦ get_or_past (replicate n 0) i 0 (omega (arith, length-replicate {A = ℕ} n 0)) ]
 
-pub set_small : (w : List ℕ) (i v B : ℕ) → v ≤ B → ((a : ℕ) → get_or w a 0 ≤ B) → (a : ℕ) → get_or (set w i v) a 0 ≤ B
-set_small w i v B h k a =
-    elim (cases_lt a (length w)) [
-      | inl g ↦ rw (put_one w i v 0 a g) (elim (eqb i a) as (λ b. cond b v (get_or w a 0) ≤ B) [ true ↦ h | false ↦ k a ])
-      | inr g ↦ rw (get_or_past (set w i v) a 0 (rw (length-set w i v) g)) (omega arith)
-    ]
+-- line i comes to a list w of the widths of the lines below it
+module _ (ls : List Line) (ws w : List ℕ) (i : ℕ) (slim : Slim ws) (few : length ls ≤ 32) (o : Ordered ls) (h : i < length ls) (long : length w ≡ i)
+    (measured : (j : ℕ) → j < i → listed w j ≡ width_at ls ws j) (small : (a : ℕ) → listed w a ≤ 32 * 2 ^ i) where
+  pub unfit_is : misfit (listed w) (line_at ls i) ≡ unfit ls ws i
+  unfit_is = misfit_below i (listed w) (width_at ls ws) (line_at ls i) (o i h) measured
+
+  -- and its width is added
+  module _ (v : ℕ) (e : v ≡ width_by ws (listed w) (line_at ls i)) where
+    none : i - i ≡ 0
+    none = omega arith
+
+    pub measured_more : (j : ℕ) → j < i + 1 → listed (w ++ v ∷ []) j ≡ width_at ls ws j
+    measured_more =
+        below_more (λ j. listed (w ++ v ∷ []) j ≡ width_at ls ws j) i
+        (λ j k. get_or_append_left w (v ∷ []) 0 j (omega arith) ∙ measured j k)
+        (get_or-append_right w (v ∷ []) i i 0 long (omega arith) ∙ ap (λ k. get_or (v ∷ []) k 0) none ∙ e ∙ width_below ws i (listed w) (width_at ls ws) (line_at ls i) (o i h) measured ∙ sym (width_at_is ls ws i h (o i h)))
+
+    module _ (ok : misfit (listed w) (line_at ls i) ≡ false) where
+      double : 2 ^ (i + 1) ≡ 2 * 2 ^ i
+      double = rw (add-one i) (pow-suc 2 i ∙ omega arith)
+
+      grown : v ≤ 32 * 2 ^ (i + 1)
+      grown = omega (arith, width_small ws (listed w) (32 * 2 ^ i) (line_at ls i) slim (omega (arith, pow_pos i)) small ok, e, double)
+
+      pub added_small : v ≤ 137438953472
+      added_small = omega (arith, grown, pow_mono {i = i + 1} {j = 32} (omega arith))
+
+      pub small_more : (a : ℕ) → listed (w ++ v ∷ []) a ≤ 32 * 2 ^ (i + 1)
+      small_more a =
+          elim (cases_lt a i) [
+            | inl k ↦ rw (get_or_append_left w (v ∷ []) 0 a (omega arith)) (omega (arith, small a, double))
+            | inr k ↦ rw (get_or-append_right w (v ∷ []) i a 0 long k) (pushed_small (a - i))
+          ]
+        where
+          pushed_small : (k : ℕ) → get_or (v ∷ []) k 0 ≤ 32 * 2 ^ (i + 1)
+          pushed_small zero = grown
+          pushed_small (suc k) = rw (get_or_past {X = ℕ} [] k 0 (omega arith)) (omega arith)

@@ -1,27 +1,16 @@
 -- Lists of marks.
-use Rattle.std.proofs.Common.{◌≡◌, ℕ, zero, suc, ◌+◌, ◌<◌, ◌≤◌, Bool, true, false, ◌||◌, List, [], ◌∷◌, ◌++◌, length, get_or, take, drop, set, sym, refl, ap, ◌∙◌, arith}
-use Rattle.std.proofs.lemmas.List.{length-take-le, length-append, length_push, get_or-take, get_or_past, take_more, take_more_set, take-take, take_all, drop_more, drop_all, append_assoc, append-nil}
+use Rattle.std.proofs.Common.{◌≡◌, ℕ, zero, suc, ◌+◌, ◌-◌, ◌<◌, ◌≤◌, Bool, true, false, ◌||◌, List, [], ◌∷◌, ◌++◌, length, get_or, take, drop, set, replicate, sym, refl, ap, ◌∙◌, arith}
+use Rattle.std.proofs.lemmas.List.{length-append, length_push, length-set, get_or_past, take_more, drop_more, drop_all, drop-replicate, drop-set-lt, append_assoc, append-nil}
+use Rattle.query.specs.Inside.{Blank}
 use Rattle.lines.specs.Marks.{either_mark}
 use Rattle.lines.proofs.Soundness.{either_length}
 
-module _ (xs : List Bool) (n : ℕ) (few : n ≤ 32) (long : length xs ≡ 32) where
-  pub count_is : length (take n xs) ≡ n
-  count_is = length-take-le n xs (omega arith)
-
-  pub at_in : (k : ℕ) → k < n → get_or xs k false ≡ get_or (take n xs) k false
-  at_in k h = sym (get_or-take n xs k false h)
-
-  pub at_past : (k : ℕ) → n ≤ k → get_or (take n xs) k false ≡ false
-  at_past k h = get_or_past (take n xs) k false (omega (arith, count_is))
-
-  pub pushed : (b : Bool) → length (take n xs) + 1 ≤ 32 → take (n + 1) (set xs n b) ≡ take n xs ++ (b ∷ [])
-  pushed b h = take_more_set xs n b (omega (arith, count_is))
-
-  pub started_low : (k : ℕ) → k < n → take k xs ≡ take k (take n xs)
-  started_low k h = sym (take-take k n xs (omega arith))
-
-  pub started_high : (k : ℕ) → n ≤ k → take n xs ≡ take k (take n xs)
-  started_high k h = sym (take_all k (take n xs) (omega (arith, count_is)))
+-- one mark more in an array whose last marks are blank
+pub pushed_blank : (m : List Bool) (n : ℕ) (b : Bool) → Blank m n → n < 32 → Blank (set m n b) (n + 1)
+pushed_blank m n b B h =
+    let e : drop (n + 1) m ≡ replicate (32 - n - 1) false = ap (drop 1) (sym (drop_more m n false (omega (arith, B.long))) ∙ B.rest) ∙ drop-replicate 1 (32 - n) false in
+    let k : 32 - n - 1 ≡ 32 - (n + 1) = omega arith in
+    record { few = omega arith; long = length-set m n b ∙ B.long; rest = drop-set-lt (n + 1) m n b (omega arith) ∙ e ∙ ap (λ v. replicate v false) k }
 
 -- a loop that adds ys from k on to what stands
 module _ (all start ys : List Bool) (from k : ℕ) (inv : all ++ drop k ys ≡ start ++ drop from ys) where

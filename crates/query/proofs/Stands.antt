@@ -1,5 +1,5 @@
 -- The marks of a line by those of its operands.
-use Rattle.std.proofs.Common.{◌≡◌, ℕ, ◌+◌, ◌<◌, ◌≤◌, true, false, List, [], ◌++◌, length, sym, refl, ap, ◌∙◌, subst, arith}
+use Rattle.std.proofs.Common.{◌≡◌, ℕ, ◌+◌, ◌<◌, ◌≤◌, true, false, ◌⊎◌, List, [], ◌++◌, length, sym, refl, ap, ◌∙◌, subst, inl, inr, arith}
 use Rattle.std.proofs.lemmas.List.{length-append}
 use Rattle.std.proofs.lemmas.Bool.{both_ways}
 use Rattle.lines.specs.declared.line.Line.{Line}
@@ -97,47 +97,71 @@ module _ (ls : List Line) (ws : List ℕ) (i : ℕ) (d : Marks) (S : Placed ls w
       (ready_by (shape_of (line_at ls i)) (ordered ls ws 7 S.passed (omega arith) i S.within) (kinds_at ls ws 7 S.passed (omega arith) i S.within)
       (contexts_of (wider ls ws) 0 ls (ordered ls ws 7 S.passed (omega arith)) (once ls ws 7 S.passed (omega arith)) i S.within))
 
+  pub placed_one : (a : ℕ) → One a ≡ shape_of (line_at ls i) → Standing ls ws a d
+  placed_one a e = (placed (One a) e).1
+
+-- line i, and its shape
+module _ (ls : List Line) (ws : List ℕ) (i : ℕ) (d : Marks) (l : Line) (r : Shape) (q : l ≡ line_at ls i) (e : r ≡ shape_of l) where
+  shaped : r ≡ shape_of (line_at ls i)
+  shaped = e ∙ ap shape_of q
+
+  module _ (S : Placed ls ws i d) where
+    pub placed_first : (a : ℕ) → ((x : ℕ) × (r ≡ Tested a x)) ⊎ ((x : ℕ) × (r ≡ Inner a x)) → Standing ls ws a d
+    placed_first a f = elim f [
+      | inl g ↦ (placed ls ws i d S (Tested a g.0) (sym g.1 ∙ shaped)).1
+      | inr g ↦ (placed ls ws i d S (Inner a g.0) (sym g.1 ∙ shaped)).0.1
+    ]
+
+  module _ (S : Standing ls ws i d) where
+    ready : (o : Shape) → r ≡ o → Ready ls ws i d (record { passed = S.passed; within = S.within; long = S.long }) o
+    ready o f = placed ls ws i d (record { passed = S.passed; within = S.within; long = S.long }) o (sym f ∙ shaped)
+
+    pub ready_first : (a : ℕ) → (r ≡ One a) ⊎ ((x : ℕ) × (r ≡ Tested a x)) → (a < i) × Standing ls ws a d
+    ready_first a f = elim f [ inl g ↦ ready (One a) g | inr g ↦ ready (Tested a g.0) g.1 ]
+
+    pub ready_two : (a b : ℕ) → r ≡ Two a b → ((a < i) × Standing ls ws a d) × ((b < i) × Standing ls ws b d)
+    ready_two a b f = ready (Two a b) f
+
+    pub ready_inner : (a b : ℕ) → r ≡ Inner a b → ((a < i) × Standing ls ws a d) × ((b < i) × Standing ls ws b (longer ls ws a d))
+    ready_inner a b f = ready (Inner a b) f
+
+    node : as_rows (at (grow [] ls) i) ≡ as_rows (build (grow [] ls) l)
+    node = ap as_rows (node_is ls i UnitL S.within (ordered ls ws 7 S.passed (omega arith) i S.within) ∙ ap (build (grow [] ls)) (sym q))
+
+    made : (o : Shape) → r ≡ o → Built ws d (grow [] ls) l o
+    made o f = let P : Shape → Type 0 = Built ws d (grow [] ls) l in subst P (sym e ∙ f) (built ws d (grow [] ls) l (rw q S.rows))
+
+    tree_is : own ws d (tree_at ls i) ≡ own ws d (as_rows (build (grow [] ls) l))
+    tree_is = ap (own ws d) node
+
+    pub room : length (own ws d (tree_at ls i)) ≤ 32
+    room = omega (arith, own_is ls ws 7 S.passed (omega arith) i S.within d, fitting ls ws 7 S.passed (omega arith) i S.within S.rows)
+
+    pub roomy : (x : Marks) → x ≡ own ws d (tree_at ls i) → length x ≤ 32
+    roomy x f = rw f room
+
+    -- the line's marks by those that were worked out for its operands
+    pub by_first : (a : ℕ) (x y : Marks) → (r ≡ One a) ⊎ ((x : ℕ) × (r ≡ Tested a x)) → x ≡ own ws d (tree_at ls a) → own_by ws d x y l ≡ own ws d (tree_at ls i)
+    by_first a x y f h = rw h (sym (tree_is ∙ elim f [ inl g ↦ made (One a) g y | inr g ↦ made (Tested a g.0) g.1 y ]))
+
+    pub by_two : (a b : ℕ) (x y : Marks) → r ≡ Two a b → x ≡ own ws d (tree_at ls a) → y ≡ own ws d (tree_at ls b) → own_by ws d x y l ≡ own ws d (tree_at ls i)
+    by_two a b x y f h k = rw (h, k) (sym (tree_is ∙ made (Two a b) f))
+
+    pub by_inner : (a b : ℕ) (x y : Marks) → r ≡ Inner a b → x ≡ own ws d (tree_at ls a) → y ≡ own ws (longer ls ws a d) (tree_at ls b) → own_by ws d x y l ≡ own ws d (tree_at ls i)
+    by_inner a b x y f h k = rw (h, k) (sym (tree_is ∙ made (Inner a b) f))
+
+    pub by_rest : (x y : Marks) → ((a : ℕ) → r ≡ One a → ⊥) → ((a b : ℕ) → r ≡ Tested a b → ⊥) → ((a b : ℕ) → r ≡ Two a b → ⊥) → ((a b : ℕ) → r ≡ Inner a b → ⊥) → own_by ws d x y l ≡ own ws d (tree_at ls i)
+    by_rest x y n1 n2 n3 n4 = go r refl
+      where
+        go : (o : Shape) → r ≡ o → own_by ws d x y l ≡ own ws d (tree_at ls i)
+        go Leaf f = sym (tree_is ∙ made Leaf f x y)
+        go (One a) f = absurd (n1 a f)
+        go (Two a b) f = absurd (n3 a b f)
+        go (Tested a b) f = absurd (n2 a b f)
+        go (Inner a b) f = absurd (n4 a b f)
+        go (Part p) f = absurd (made (Part p) f)
+        go (Parts p o) f = absurd (made (Parts p o) f)
+
 module _ (ls : List Line) (ws : List ℕ) (i : ℕ) (d : Marks) (S : Standing ls ws i d) where
-  pub ready : (r : Shape) → r ≡ shape_of (line_at ls i) → Ready ls ws i d (record { passed = S.passed; within = S.within; long = S.long }) r
-  ready r e = placed ls ws i d (record { passed = S.passed; within = S.within; long = S.long }) r e
-
-  node : as_rows (at (grow [] ls) i) ≡ as_rows (build (grow [] ls) (line_at ls i))
-  node = ap as_rows (node_is ls i UnitL S.within (ordered ls ws 7 S.passed (omega arith) i S.within))
-
-  pub made : (r : Shape) → r ≡ shape_of (line_at ls i) → Built ws d (grow [] ls) (line_at ls i) r
-  made r e = let P : Shape → Type 0 = Built ws d (grow [] ls) (line_at ls i) in subst P (sym e) (built ws d (grow [] ls) (line_at ls i) S.rows)
-
-  pub tree_is : own ws d (tree_at ls i) ≡ own ws d (as_rows (build (grow [] ls) (line_at ls i)))
-  tree_is = ap (own ws d) node
-
-  pub room : length (own ws d (tree_at ls i)) ≤ 32
-  room = omega (arith, own_is ls ws 7 S.passed (omega arith) i S.within d, fitting ls ws 7 S.passed (omega arith) i S.within S.rows)
-
   pub long_room : length (longer ls ws i d) ≤ 32
   long_room = omega (arith, length-append d (own ws d (tree_at ls i)), S.long, own_is ls ws 7 S.passed (omega arith) i S.within d, fitting ls ws 7 S.passed (omega arith) i S.within S.rows)
-
-  -- the line's marks by those that were worked out for its operands
-  pub by_one : (a : ℕ) (x y : Marks) → One a ≡ shape_of (line_at ls i) → x ≡ own ws d (tree_at ls a) → own_by ws d x y (line_at ls i) ≡ own ws d (tree_at ls i)
-  by_one a x y e h = rw h (sym (tree_is ∙ made (One a) e y))
-
-  pub by_tested : (a q : ℕ) (x y : Marks) → Tested a q ≡ shape_of (line_at ls i) → x ≡ own ws d (tree_at ls a) → own_by ws d x y (line_at ls i) ≡ own ws d (tree_at ls i)
-  by_tested a q x y e h = rw h (sym (tree_is ∙ made (Tested a q) e y))
-
-  pub by_two : (a b : ℕ) (x y : Marks) → Two a b ≡ shape_of (line_at ls i) → x ≡ own ws d (tree_at ls a) → y ≡ own ws d (tree_at ls b) → own_by ws d x y (line_at ls i) ≡ own ws d (tree_at ls i)
-  by_two a b x y e h k = rw (h, k) (sym (tree_is ∙ made (Two a b) e))
-
-  pub by_inner : (a b : ℕ) (x y : Marks) → Inner a b ≡ shape_of (line_at ls i) → x ≡ own ws d (tree_at ls a) → y ≡ own ws (longer ls ws a d) (tree_at ls b) → own_by ws d x y (line_at ls i) ≡ own ws d (tree_at ls i)
-  by_inner a b x y e h k = rw (h, k) (sym (tree_is ∙ made (Inner a b) e))
-
-  pub by_rest : (r : Shape) (x y : Marks) → r ≡ shape_of (line_at ls i) → ((a : ℕ) → r ≡ One a → ⊥) → ((a b : ℕ) → r ≡ Two a b → ⊥) → ((a b : ℕ) → r ≡ Tested a b → ⊥) → ((a b : ℕ) → r ≡ Inner a b → ⊥)
-      → own_by ws d x y (line_at ls i) ≡ own ws d (tree_at ls i)
-  by_rest Leaf x y e n1 n2 n3 n4 = sym (tree_is ∙ made Leaf e x y)
-  by_rest (One a) x y e n1 n2 n3 n4 = absurd (n1 a refl)
-  by_rest (Two a b) x y e n1 n2 n3 n4 = absurd (n2 a b refl)
-  by_rest (Tested a b) x y e n1 n2 n3 n4 = absurd (n3 a b refl)
-  by_rest (Inner a b) x y e n1 n2 n3 n4 = absurd (n4 a b refl)
-  by_rest (Part p) x y e n1 n2 n3 n4 = absurd (made (Part p) e)
-  by_rest (Parts p q) x y e n1 n2 n3 n4 = absurd (made (Parts p q) e)
-
-  pub roomy : (x : Marks) → x ≡ own ws d (tree_at ls i) → length x ≤ 32
-  roomy x e = rw e room

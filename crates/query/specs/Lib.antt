@@ -4,6 +4,7 @@ pub mod Contexts
 pub mod Sums
 pub mod Verdicts
 pub mod Working
+pub mod Inside
 pub mod Marking
 pub mod Sizes
 pub mod Queries

@@ -1,16 +1,11 @@
 -- The lists of marks that the check's own code works out.
-use Rattle.std.specs.Prelude.{◌≡◌, ℕ, ◌-◌, ◌<◌, Bool, false, List, [], ◌∷◌, ◌++◌, length, take, drop, replicate, slice_index, slice_index_or, refl}
-use Rattle.std.proofs.Common.{lit≤}
+use Rattle.std.specs.Prelude.{◌≡◌, ℕ, ◌-◌, ◌<◌, Bool, false, List, [], ◌∷◌, ◌++◌, length, take, drop, replicate, slice_index, slice_index_or}
 use Rattle.lines.specs.declared.line.Line.{Line}
 use Rattle.lines.specs.declared.line.Line.TheVariants.{Table as TableL, Unit as UnitL, Select, Keep, Extend, ExtendTruth, Pad, Match, SemiMatch, AntiMatch, Union, Diff, Distinct, Group, Total, ApplyCross, ApplyOuter, ApplySemi, ApplyAnti, ApplySome, ApplyAll, Compare, IsNull, Not, Unknown as UnknownL, And, Or}
 use Rattle.lines.specs.Shapes.{is_condition, line_at}
 use Rattle.lines.specs.Marks.{mark_of, either_mark, fold_from}
-use Rattle.query.specs.declared.marks.Marks.{Marks}
 use Rattle.query.specs.Contexts.{context_at}
 use Rattle.query.specs.Verdicts.{Passed}
-
-abbrev pub marks_of : Marks → List Bool
-marks_of m = take m.count m.columns
 
 -- the marks of a line's own columns, where d has those of its context and x and y those of its operands' own columns
 abbrev pub own_by : List ℕ → List Bool → List Bool → List Bool → Line → List Bool
@@ -55,9 +50,6 @@ pub record Standing (ls : List Line) (ws : List ℕ) (i : ℕ) (d : List Bool) :
   pub rows : is_condition (line_at ls i) ≡ false
   pub long : length d ≡ context_at ls ws i
 
--- no marks, and the marks that a list holds for line i
-abbrev pub no_marks : Marks
-no_marks = record { columns = replicate 32 false; count = 0; few = lit≤ tt; long = refl }
-
-abbrev pub marked : List Marks → ℕ → List Bool
-marked m i = marks_of (slice_index_or m i no_marks)
+-- the marks that a list holds for line i
+abbrev pub marked : List (List Bool) → ℕ → List Bool
+marked m i = slice_index_or m i []

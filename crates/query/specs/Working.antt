@@ -21,6 +21,7 @@ wider_by w a c = c + listed w a
 
 -- no line is a misfit, and w holds the widths of the lines
 pub record Measured (ls : List Line) (ws w : List ℕ) : Type 0 where
+  pub long : length w ≡ length ls
   pub fits : Never (unfit ls ws) (length ls)
   pub widths : (i : ℕ) → i < length ls → listed w i ≡ width_at ls ws i
   pub small : Small w

@@ -1,53 +1,51 @@
-// The refusals 1 to 8 in their order.
-ghost use Rattle.std.specs.Prelude.{◌≡◌, MatchResult};
-ghost use Rattle.query.specs.Fits.{Slim};
+// The refusals 1 to 8 in their order. Each step asks by a clause what those before it ruled out: a type for each of these
+// states would be no plainer.
+ghost use Rattle.std.specs.Prelude.{◌≡◌, ℕ, ◌<◌, Bool, length, MatchResult};
+ghost use Rattle.query.specs.Reads.{Never, First};
 ghost use Rattle.query.specs.Verdicts.{Passed, Refused, Accepted};
 ghost use Rattle.query.specs.Working.{Measured};
 
-use crate::contexts::{contexts, first_overlong, first_stray};
-use crate::fits::{first_unknown_table, measure};
-use crate::reads::{first_isolated, first_misread};
-use crate::sums::first_resummed;
-use lines::line::Line;
+use crate::draft::Draft;
+use crate::widths::Widths;
 use stock::refusal::Refusal;
 
-fn check_reads(lines: &[Line], tables: &[usize]) -> Result<(), Refusal>
-    ensures { MatchResult result (λ _. Passed lines.now tables.now 4) (λ e. Refused lines.now tables.now e) }
-{
-    if lines.len() == 0 || lines.len() > 32 {
-        return Err(Refusal::LineCount(lines.len()));
+impl Draft {
+    // Refuses the first line at which a test holds.
+    pub(crate) fn refuse_first<F: Fn(usize) -> bool, R: Fn(usize) -> Refusal>(
+        &self,
+        is_faulty: F,
+        refusal: R,
+    ) -> Result<(), Refusal>
+        requires tests { (i : ℕ) → i < length self.now.lines.items → F.pre is_faulty i }
+        requires refuses { R.IsAlwaysCallable refusal }
+        ensures { (p : ℕ → Bool) → ((i : ℕ) (b : Bool) → i < length self.now.lines.items → F.post is_faulty i b → b ≡ p i)
+            → MatchResult result (λ _. Never p (length self.now.lines.items)) (λ e. (i : ℕ) × First p (length self.now.lines.items) i × R.post refusal i e) }
+    {
+        // `find` would want the clauses once more, on a closure that calls the test.
+        for i in 0..self.lines.len() {
+            if is_faulty(i) {
+                return Err(refusal(i));
+            }
+        }
+        Ok(())
     }
-    if let Some(line) = first_misread(lines) {
-        return Err(Refusal::Operand(line));
-    }
-    if let Some(line) = first_isolated(lines) {
-        return Err(Refusal::Reading(line));
-    }
-    if let Some(line) = first_unknown_table(lines, tables) {
-        return Err(Refusal::UnknownTable(line));
-    }
-    Ok(())
-}
 
-// The widths of all lines of an accepted query, or the first cause to refuse it.
-pub(crate) fn check(lines: &[Line], tables: &[usize]) -> Result<[usize; 32], Refusal>
-    requires { Slim tables.now }
-    ensures { MatchResult result (λ w. Accepted lines.now tables.now × Measured lines.now tables.now w) (λ e. Refused lines.now tables.now e) }
-{
-    check_reads(lines, tables)?;
-    let widths = match measure(lines, tables) {
-        Ok(widths) => widths,
-        Err(line) => return Err(Refusal::Misfit(line)),
-    };
-    let contexts = contexts(lines, &widths);
-    if let Some(line) = first_overlong(lines, &widths, &contexts) {
-        return Err(Refusal::LongRow(line));
+    fn check_reads(&self) -> Result<(), Refusal>
+        ensures { MatchResult result (λ _. Passed self.now.lines.items self.now.tables.items 4) (λ e. Refused self.now.lines.items self.now.tables.items e) }
+    {
+        self.refuse_first(|i| self.is_misread(i), Refusal::Operand)?;
+        self.refuse_first(|i| self.is_isolated(i), Refusal::Reading)?;
+        self.refuse_first(|i| self.is_unknown(i), Refusal::UnknownTable)
     }
-    if let Some(line) = first_stray(lines, &widths, &contexts) {
-        return Err(Refusal::UnknownColumn(line));
+
+    // The widths of all lines of an accepted query, or the first cause to refuse it.
+    pub(crate) fn check(&self) -> Result<Widths, Refusal>
+        ensures { MatchResult result (λ w. Accepted self.now.lines.items self.now.tables.items × Measured self.now.lines.items self.now.tables.items w.each.items) (λ e. Refused self.now.lines.items self.now.tables.items e) }
+    {
+        self.check_reads()?;
+        let widths = self.measure()?;
+        self.check_columns(&widths)?;
+        self.check_sums()?;
+        Ok(widths)
     }
-    if let Some(line) = first_resummed(lines, tables) {
-        return Err(Refusal::SumOfSum(line));
-    }
-    Ok(widths)
 }

@@ -1,40 +1,15 @@
 // Tables, widths, counts and constants: the refusals 4 and 5.
-ghost use Rattle.std.specs.Prelude.{◌≡◌, ◌+◌, ◌≤◌, false, ◌&&◌, length, MatchOption, MatchResult, nat_le, slice_index};
+ghost use Rattle.std.specs.Prelude.{◌≡◌, ◌+◌, ◌≤◌, false, ◌&&◌, MatchResult, nat_le};
 ghost use Rattle.lines.specs.Shapes.{line_at, Ordered};
-ghost use Rattle.query.specs.Reads.{Never, First};
-ghost use Rattle.query.specs.Fits.{unknown_table, stored_side, misfit, unfit, width_by, Slim};
-ghost use Rattle.query.specs.Working.{listed, Small, Measured};
+ghost use Rattle.query.specs.Fits.{unknown_table, stored_side, misfit, width_by};
+ghost use Rattle.query.specs.Verdicts.{Passed, Refused};
+ghost use Rattle.query.specs.Working.{listed, Measured};
 
+use crate::draft::Draft;
+use crate::widths::Widths;
 use cells::cell::Cell;
 use lines::line::{Line, Side};
-
-fn is_unknown(line: Line, tables: &[usize]) -> bool
-    ensures { result ≡ unknown_table tables.now line }
-{
-    match line {
-        Line::Table { table } => table >= tables.len(),
-        _ => false,
-    }
-}
-
-// The first line with a table that the stock lacks.
-pub(crate) fn first_unknown_table(lines: &[Line], tables: &[usize]) -> Option<usize>
-    ensures { MatchOption result (Never (λ i. unknown_table tables.now (line_at lines.now i)) (length lines.now)) (λ i. First (λ i. unknown_table tables.now (line_at lines.now i)) (length lines.now) i) }
-{
-    for i in 0..lines.len() {
-        if is_unknown(lines[i], tables) {
-            return Some(i);
-        }
-    }
-    None
-}
-
-// A width of the list, 0 past its end.
-pub(crate) fn at(widths: &[usize; 32], a: usize) -> usize
-    ensures { result ≡ listed widths.now a }
-{
-    if a < 32 { widths[a] } else { 0 }
-}
+use stock::refusal::Refusal;
 
 // Whether a row of w columns has n first and m last ones, at least one in all.
 fn keeps(n: usize, m: usize, w: usize) -> bool
@@ -52,97 +27,88 @@ fn is_stored(side: Side) -> bool
     }
 }
 
-fn is_misfit(line: Line, widths: &[usize; 32]) -> bool
-    ensures { result ≡ misfit (listed widths.now) line }
+fn is_misfit(line: Line, widths: &Widths) -> bool
+    ensures { result ≡ misfit (listed widths.now.each.items) line }
 {
     match line {
-        Line::Keep { first, last, rows } => !keeps(first, last, at(widths, rows)),
+        Line::Keep { first, last, rows } => !keeps(first, last, widths.at(rows)),
         Line::Extend { value, .. } => !is_stored(value),
-        Line::Pad { nulls, .. } => !(1 <= nulls && nulls <= 31),
+        Line::Pad { nulls, .. } => !(1..=31).contains(&nulls),
         Line::Match {
             shared,
             left,
             right,
-        } => !(shared <= at(widths, left) && shared <= at(widths, right)),
-        Line::SemiMatch {
+        }
+        | Line::SemiMatch {
             shared,
             left,
             right,
-        } => !(shared <= at(widths, left) && shared <= at(widths, right)),
-        Line::AntiMatch {
+        }
+        | Line::AntiMatch {
             shared,
             left,
             right,
-        } => !(shared <= at(widths, left) && shared <= at(widths, right)),
-        Line::Union { left, right } => at(widths, left) != at(widths, right),
-        Line::Diff { left, right } => at(widths, left) != at(widths, right),
-        Line::Group { keys, rows, .. } => !(1 <= keys && keys <= at(widths, rows)),
-        Line::ApplySome { right, .. } => at(widths, right) != 1,
-        Line::ApplyAll { right, .. } => at(widths, right) != 1,
+        } => !(shared <= widths.at(left) && shared <= widths.at(right)),
+        Line::Union { left, right } | Line::Diff { left, right } => {
+            widths.at(left) != widths.at(right)
+        }
+        Line::Group { keys, rows, .. } => !(1..=widths.at(rows)).contains(&keys),
+        Line::ApplySome { right, .. } | Line::ApplyAll { right, .. } => widths.at(right) != 1,
         Line::Compare { left, right, .. } => !(is_stored(left) && is_stored(right)),
         _ => false,
     }
 }
 
-// The width of a table, 0 where there is none.
-pub(crate) fn table_width(tables: &[usize], table: usize) -> usize
-    ensures { result ≡ slice_index tables.now table }
-{
-    if table < tables.len() {
-        tables[table]
-    } else {
-        0
+impl Draft {
+    // Whether line i names a table that the stock lacks.
+    pub(crate) fn is_unknown(&self, i: usize) -> bool
+        ensures { result ≡ unknown_table self.now.tables.items (line_at self.now.lines.items i) }
+    {
+        matches!(self.line(i), Line::Table { table } if table >= self.tables.len())
     }
-}
 
-fn width_of(line: Line, widths: &[usize; 32], tables: &[usize]) -> usize
-    requires small { Small widths.now }
-    requires fit { misfit (listed widths.now) line ≡ false }
-    ensures { result ≡ width_by tables.now (listed widths.now) line }
-{
-    match line {
-        Line::Table { table } => table_width(tables, table),
-        Line::Select { rows, .. } => at(widths, rows),
-        Line::Keep { first, last, .. } => first + last,
-        Line::Extend { rows, .. } => at(widths, rows) + 1,
-        Line::ExtendTruth { rows, .. } => at(widths, rows) + 1,
-        Line::Pad { nulls, rows } => at(widths, rows) + nulls,
-        Line::Match {
-            shared,
-            left,
-            right,
-        } => at(widths, left) + at(widths, right).saturating_sub(shared),
-        Line::SemiMatch { left, .. } => at(widths, left),
-        Line::AntiMatch { left, .. } => at(widths, left),
-        Line::Union { left, .. } => at(widths, left),
-        Line::Diff { left, .. } => at(widths, left),
-        Line::Distinct { rows } => at(widths, rows),
-        Line::Group { keys, .. } => keys + 1,
-        Line::ApplyCross { left, right } => at(widths, left) + at(widths, right),
-        Line::ApplyOuter { left, right } => at(widths, left) + at(widths, right),
-        Line::ApplySemi { left, .. } => at(widths, left),
-        Line::ApplyAnti { left, .. } => at(widths, left),
-        Line::ApplySome { left, .. } => at(widths, left) + 1,
-        Line::ApplyAll { left, .. } => at(widths, left) + 1,
-        _ => 1,
-    }
-}
-
-// The widths of all lines, or the first line whose counts, widths or constants are out of their bounds.
-pub(crate) fn measure(lines: &[Line], tables: &[usize]) -> Result<[usize; 32], usize>
-    requires few { length lines.now ≤ 32 }
-    requires ordered { Ordered lines.now }
-    requires slim { Slim tables.now }
-    ensures { MatchResult result (λ w. Measured lines.now tables.now w) (λ i. First (unfit lines.now tables.now) (length lines.now) i) }
-{
-    let mut widths = [0usize; 32];
-    for i in 0..lines.len() {
-        let line = lines[i];
-        if is_misfit(line, &widths) {
-            return Err(i);
+    fn width_of(&self, line: Line, widths: &Widths) -> usize
+        requires { misfit (listed widths.now.each.items) line ≡ false }
+        ensures { result ≡ width_by self.now.tables.items (listed widths.now.each.items) line }
+    {
+        match line {
+            Line::Table { table } => self.table_width(table),
+            Line::Keep { first, last, .. } => first + last,
+            Line::Pad { nulls, rows } => widths.at(rows) + nulls,
+            Line::Match {
+                shared,
+                left,
+                right,
+            } => widths.at(left) + widths.at(right).saturating_sub(shared),
+            Line::Group { keys, .. } => keys + 1,
+            Line::ApplyCross { left, right } | Line::ApplyOuter { left, right } => {
+                widths.at(left) + widths.at(right)
+            }
+            Line::Select { rows, .. } | Line::Distinct { rows } => widths.at(rows),
+            Line::SemiMatch { left, .. }
+            | Line::AntiMatch { left, .. }
+            | Line::Union { left, .. }
+            | Line::Diff { left, .. }
+            | Line::ApplySemi { left, .. }
+            | Line::ApplyAnti { left, .. } => widths.at(left),
+            Line::Extend { rows, .. } | Line::ExtendTruth { rows, .. } => widths.at(rows) + 1,
+            Line::ApplySome { left, .. } | Line::ApplyAll { left, .. } => widths.at(left) + 1,
+            _ => 1,
         }
-        let width = width_of(line, &widths, tables);
-        widths[i] = width;
     }
-    Ok(widths)
+
+    // The widths of all lines, or the first line whose counts, widths or constants are out of their bounds.
+    pub(crate) fn measure(&self) -> Result<Widths, Refusal>
+        requires { Passed self.now.lines.items self.now.tables.items 4 }
+        ensures { MatchResult result (λ w. Measured self.now.lines.items self.now.tables.items w.each.items) (λ e. Refused self.now.lines.items self.now.tables.items e) }
+    {
+        let mut widths = Widths::new();
+        for (i, line) in self.lines.iter().enumerate() {
+            if is_misfit(*line, &widths) {
+                return Err(Refusal::Misfit(i));
+            }
+            widths.push(self.width_of(*line, &widths));
+        }
+        Ok(widths)
+    }
 }

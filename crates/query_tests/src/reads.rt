@@ -5,35 +5,35 @@ use std::test::Fail;
 
 #[test]
 fn one_to_32_lines(rt: HostRuntime) -> Result<(), Fail> {
-    refused(&rt, &[], 1, 0)?;
+    refused(&rt, &[], 1, 0);
     passes(&rt, &[Line::Unit], 1)?;
     let mut lines = [Line::Unit; 32];
-    for i in 1..32usize {
-        lines[i] = Line::Distinct { rows: i - 1 };
+    for (rows, line) in lines[1..].iter_mut().enumerate() {
+        *line = Line::Distinct { rows };
     }
     passes(&rt, &lines, 1)
 }
 
 #[test]
-fn not_33_lines(rt: HostRuntime) -> Result<(), Fail> {
+fn not_33_lines(rt: HostRuntime) {
     let mut lines = [Line::Unit; 33];
-    for i in 1..33usize {
-        lines[i] = Line::Distinct { rows: i - 1 };
+    for (rows, line) in lines[1..].iter_mut().enumerate() {
+        *line = Line::Distinct { rows };
     }
-    refused(&rt, &lines, 1, 33)
+    refused(&rt, &lines, 1, 33);
 }
 
 #[test]
 fn operands_are_lower(rt: HostRuntime) -> Result<(), Fail> {
-    refused(&rt, &[Line::Distinct { rows: 0 }], 2, 0)?;
-    refused(&rt, &[Line::Unit, Line::Distinct { rows: 1 }], 2, 1)?;
-    refused(&rt, &[Line::Unit, Line::Distinct { rows: 2 }], 2, 1)?;
+    refused(&rt, &[Line::Distinct { rows: 0 }], 2, 0);
+    refused(&rt, &[Line::Unit, Line::Distinct { rows: 1 }], 2, 1);
+    refused(&rt, &[Line::Unit, Line::Distinct { rows: 2 }], 2, 1);
     refused(
         &rt,
         &[Line::Unit, Line::Distinct { rows: usize::MAX }],
         2,
         1,
-    )?;
+    );
     passes(&rt, &[Line::Unit, Line::Distinct { rows: 0 }], 1)
 }
 
@@ -52,9 +52,9 @@ fn rows_and_conditions_are_not_confused(rt: HostRuntime) -> Result<(), Fail> {
         ],
         2,
         2,
-    )?;
-    refused(&rt, &[Line::Unit, Line::Not { condition: 0 }], 2, 1)?;
-    refused(&rt, &[test, Line::Distinct { rows: 0 }], 2, 1)?;
+    );
+    refused(&rt, &[Line::Unit, Line::Not { condition: 0 }], 2, 1);
+    refused(&rt, &[test, Line::Distinct { rows: 0 }], 2, 1);
     passes(
         &rt,
         &[
@@ -84,8 +84,8 @@ fn rows_and_conditions_are_not_confused(rt: HostRuntime) -> Result<(), Fail> {
 
 #[test]
 fn every_line_but_the_last_is_read_once(rt: HostRuntime) -> Result<(), Fail> {
-    refused(&rt, &[Line::Unit, Line::Unit], 3, 0)?;
-    refused(&rt, &[Line::Unit, Line::Union { left: 0, right: 0 }], 3, 0)?;
+    refused(&rt, &[Line::Unit, Line::Unit], 3, 0);
+    refused(&rt, &[Line::Unit, Line::Union { left: 0, right: 0 }], 3, 0);
     refused(
         &rt,
         &[
@@ -95,8 +95,8 @@ fn every_line_but_the_last_is_read_once(rt: HostRuntime) -> Result<(), Fail> {
         ],
         3,
         0,
-    )?;
-    refused(&rt, &[Line::IsNull { column: 0 }], 3, 0)?;
+    );
+    refused(&rt, &[Line::IsNull { column: 0 }], 3, 0);
     passes(
         &rt,
         &[Line::Unit, Line::Unit, Line::Union { left: 0, right: 1 }],

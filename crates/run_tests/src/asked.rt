@@ -1,33 +1,18 @@
 // Nested reading with its exact need.
-use crate::outcomes::asks;
-use crate::reorder::reorder;
-use cells::cell::Cell;
+use crate::outcomes::{KITS, NULL, ONE, SHIPMENTS, THREE, TWO, ZERO, asks, refused};
 use cells::sign::Sign;
+use dealer::REORDER;
 use evaluate::ask::ask;
 use lines::line::{Line, Side};
 use query::query::Query;
 use std::test::Fail;
 use stock::ruler::Ruler;
 
-const ONE: Cell = Cell::Number(1);
-
-const TWO: Cell = Cell::Number(2);
-
-const THREE: Cell = Cell::Number(3);
-
-const ZERO: Cell = Cell::Number(0);
-
-const NULL: Cell = Cell::Null;
-
-const KITS: Line = Line::Table { table: 0 };
-
-const SHIPMENTS: Line = Line::Table { table: 1 };
-
 // The table is laid, and its rows once more as the line's result.
 #[test]
 fn one_table_needs_twice_its_cells(rt: HostRuntime) -> Result<(), Fail> {
     let kits = [ONE, TWO, TWO, ZERO, TWO, ZERO, THREE, NULL];
-    asks(&rt, rt.alloc(), &[KITS], 16, 0, 4, 2, &kits)
+    asks(&rt, &[KITS], 16, 0, (4, 2), &kits)
 }
 
 #[test]
@@ -36,7 +21,7 @@ fn a_table_read_by_two_lines_is_laid_twice(rt: HostRuntime) -> Result<(), Fail> 
     let kits = [
         ONE, TWO, TWO, ZERO, TWO, ZERO, THREE, NULL, ONE, TWO, TWO, ZERO, TWO, ZERO, THREE, NULL,
     ];
-    asks(&rt, rt.alloc(), &lines, 48, 2, 8, 2, &kits)
+    asks(&rt, &lines, 48, 2, (8, 2), &kits)
 }
 
 // The moments are 8, 14, 22, then for each kit those of its count: 28, 32, 27, 26; 31, 31, 26, 29; 34, 34, 29, 32; 37, 39, 34, 35; then 35, 29.
@@ -44,12 +29,10 @@ fn a_table_read_by_two_lines_is_laid_twice(rt: HostRuntime) -> Result<(), Fail> 
 fn kits_by_their_count(rt: HostRuntime) -> Result<(), Fail> {
     asks(
         &rt,
-        rt.alloc(),
-        &reorder(),
+        &REORDER,
         39,
         3,
-        3,
-        2,
+        (3, 2),
         &[ONE, TWO, TWO, ZERO, TWO, ZERO],
     )
 }
@@ -67,7 +50,7 @@ fn an_apply_inside_an_apply_inside_an_apply(rt: HostRuntime) -> Result<(), Fail>
         Line::ApplySemi { left: 0, right: 5 },
     ];
     let kits = [ONE, TWO, TWO, ZERO, TWO, ZERO, THREE, NULL];
-    asks(&rt, rt.alloc(), &lines, 57, 4, 4, 2, &kits)
+    asks(&rt, &lines, 57, 4, (4, 2), &kits)
 }
 
 // The right operand is never read.
@@ -88,25 +71,15 @@ fn an_apply_over_no_left_rows(rt: HostRuntime) -> Result<(), Fail> {
         SHIPMENTS,
         Line::ApplyCross { left: 2, right: 3 },
     ];
-    asks(&rt, rt.alloc(), &lines, 22, 0, 0, 4, &[])
+    asks(&rt, &lines, 22, 0, (0, 4), &[])
 }
 
 #[test]
 fn the_limits_of_lent_cells(rt: HostRuntime) -> Result<(), Fail> {
     let empty = Ruler::of(0);
-    let Ok(query) = Query::check(&[KITS], &empty) else {
-        return Err(Fail::new("not accepted"));
-    };
-    match ask(&empty, &query, &mut []) {
-        Ok(counts) => assert_eq!(rt; counts, (0, 1)),
-        Err(_) => return Err(Fail::new("refused")),
-    }
+    let query = Query::check(&[KITS], &empty)?;
+    assert_eq!(rt; ask(&empty, &query, &mut []), Ok((0, 1)));
     let mut more = vec![in rt.alloc(); ONE; 65537]?;
-    match ask(&empty, &query, &mut more) {
-        Ok(_) => Err(Fail::new("answered")),
-        Err(e) => {
-            assert_eq!(rt; (e.number(), e.value()), (11, 0));
-            Ok(())
-        },
-    }
+    refused(&rt, ask(&empty, &query, &mut more), 11, 0);
+    Ok(())
 }

@@ -1,29 +1,15 @@
 // Each kind of line with its rows and its exact need.
-use crate::outcomes::needs;
+use crate::outcomes::{KITS, NULL, ONE, SHIPMENTS, THREE, TWO, ZERO, needs};
 use cells::cell::Cell;
 use cells::sign::Sign;
 use lines::line::{Aggregate, Line, Side};
 use std::test::Fail;
 
-const KITS: Line = Line::Table { table: 0 };
-
-const SHIPMENTS: Line = Line::Table { table: 1 };
-
-const NULL: Cell = Cell::Null;
-
-const ONE: Cell = Cell::Number(1);
-
-const TWO: Cell = Cell::Number(2);
-
-const THREE: Cell = Cell::Number(3);
-
-const ZERO: Cell = Cell::Number(0);
-
 #[test]
 fn table_and_unit(rt: HostRuntime) -> Result<(), Fail> {
     let kits = [ONE, TWO, TWO, ZERO, TWO, ZERO, THREE, NULL];
-    needs(&rt, rt.alloc(), &[KITS], 8, 0, 4, 2, &kits)?;
-    needs(&rt, rt.alloc(), &[Line::Unit], 1, 0, 1, 1, &[ZERO])
+    needs(&rt, &[KITS], 8, 0, (4, 2), &kits)?;
+    needs(&rt, &[Line::Unit], 1, 0, (1, 1), &[ZERO])
 }
 
 #[test]
@@ -41,16 +27,7 @@ fn select(rt: HostRuntime) -> Result<(), Fail> {
             condition: 1,
         },
     ];
-    needs(
-        &rt,
-        rt.alloc(),
-        &lines,
-        12,
-        2,
-        2,
-        2,
-        &[TWO, ZERO, TWO, ZERO],
-    )
+    needs(&rt, &lines, 12, 2, (2, 2), &[TWO, ZERO, TWO, ZERO])
 }
 
 #[test]
@@ -63,18 +40,9 @@ fn keep_and_pad(rt: HostRuntime) -> Result<(), Fail> {
             rows: 0,
         },
     ];
-    needs(
-        &rt,
-        rt.alloc(),
-        &keep,
-        12,
-        1,
-        4,
-        1,
-        &[TWO, ZERO, ZERO, NULL],
-    )?;
+    needs(&rt, &keep, 12, 1, (4, 1), &[TWO, ZERO, ZERO, NULL])?;
     let pad = [Line::Unit, Line::Pad { nulls: 2, rows: 0 }];
-    needs(&rt, rt.alloc(), &pad, 4, 1, 1, 3, &[ZERO, NULL, NULL])
+    needs(&rt, &pad, 4, 1, (1, 3), &[ZERO, NULL, NULL])
 }
 
 #[test]
@@ -88,7 +56,7 @@ fn extend(rt: HostRuntime) -> Result<(), Fail> {
     ];
     let (five, seven) = (Cell::Number(5), Cell::Number(7));
     let copied = [ONE, five, ONE, ONE, seven, ONE, THREE, NULL, THREE];
-    needs(&rt, rt.alloc(), &column, 15, 1, 3, 3, &copied)?;
+    needs(&rt, &column, 15, 1, (3, 3), &copied)?;
     let truth = [
         SHIPMENTS,
         Line::IsNull { column: 1 },
@@ -98,7 +66,7 @@ fn extend(rt: HostRuntime) -> Result<(), Fail> {
         },
     ];
     let told = [ONE, five, ZERO, ONE, seven, ZERO, THREE, NULL, ONE];
-    needs(&rt, rt.alloc(), &truth, 15, 2, 3, 3, &told)
+    needs(&rt, &truth, 15, 2, (3, 3), &told)
 }
 
 #[test]
@@ -115,7 +83,7 @@ fn matches(rt: HostRuntime) -> Result<(), Fail> {
     ];
     let (five, seven) = (Cell::Number(5), Cell::Number(7));
     let rows = [ONE, TWO, five, ONE, TWO, seven, THREE, NULL, NULL];
-    needs(&rt, rt.alloc(), &joined, 23, 2, 3, 3, &rows)?;
+    needs(&rt, &joined, 23, 2, (3, 3), &rows)?;
     let semi = [
         KITS,
         SHIPMENTS,
@@ -125,16 +93,7 @@ fn matches(rt: HostRuntime) -> Result<(), Fail> {
             right,
         },
     ];
-    needs(
-        &rt,
-        rt.alloc(),
-        &semi,
-        18,
-        2,
-        2,
-        2,
-        &[ONE, TWO, THREE, NULL],
-    )?;
+    needs(&rt, &semi, 18, 2, (2, 2), &[ONE, TWO, THREE, NULL])?;
     let anti = [
         KITS,
         SHIPMENTS,
@@ -144,7 +103,7 @@ fn matches(rt: HostRuntime) -> Result<(), Fail> {
             right,
         },
     ];
-    needs(&rt, rt.alloc(), &anti, 18, 2, 2, 2, &[TWO, ZERO, TWO, ZERO])
+    needs(&rt, &anti, 18, 2, (2, 2), &[TWO, ZERO, TWO, ZERO])
 }
 
 #[test]
@@ -157,19 +116,10 @@ fn union_diff_and_distinct(rt: HostRuntime) -> Result<(), Fail> {
     ];
     let (five, seven) = (Cell::Number(5), Cell::Number(7));
     let rows = [ONE, five, ONE, seven, THREE, NULL, ONE, TWO, TWO, ZERO];
-    needs(&rt, rt.alloc(), &twice, 38, 3, 5, 2, &rows)?;
+    needs(&rt, &twice, 38, 3, (5, 2), &rows)?;
     // the kit (3, NULL) is the same as a shipment
     let diff = [KITS, SHIPMENTS, Line::Diff { left: 0, right: 1 }];
-    needs(
-        &rt,
-        rt.alloc(),
-        &diff,
-        20,
-        2,
-        3,
-        2,
-        &[ONE, TWO, TWO, ZERO, TWO, ZERO],
-    )
+    needs(&rt, &diff, 20, 2, (3, 2), &[ONE, TWO, TWO, ZERO, TWO, ZERO])
 }
 
 #[test]
@@ -191,7 +141,7 @@ fn group(rt: HostRuntime) -> Result<(), Fail> {
             },
         ];
         let rows = [ONE, cells[0], TWO, cells[1], THREE, cells[2]];
-        needs(&rt, rt.alloc(), &lines, 14, 1, 3, 2, &rows)?;
+        needs(&rt, &lines, 14, 1, (3, 2), &rows)?;
     }
     Ok(())
 }
@@ -213,7 +163,7 @@ fn total(rt: HostRuntime) -> Result<(), Fail> {
                 rows: 0,
             },
         ];
-        needs(&rt, rt.alloc(), &lines, 7, 1, 1, 1, &[cell])?;
+        needs(&rt, &lines, 7, 1, (1, 1), &[cell])?;
     }
     Ok(())
 }

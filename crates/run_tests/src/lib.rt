@@ -9,5 +9,3 @@ mod kinds;
 mod limits;
 #[cfg(test)]
 mod outcomes;
-#[cfg(test)]
-mod reorder;

@@ -1,115 +1,114 @@
-// A plan run with just the cells that it needs, and with one less.
+// Lines worked out with just the cells that they need, and with one less.
 use cells::cell::Cell;
+use dealer::{KITS_AND_SHIPMENTS, TABLES};
 use evaluate::ask::ask;
 use evaluate::run::run;
 use lines::line::Line;
 use query::query::Query;
 use shelf::shelf::Shelf;
-use std::alloc::Global;
 use std::process::Abort;
 use std::test::Fail;
 use stock::refusal::Refusal;
 use unnest::plan::FlatPlan;
 
-// Kits (kit, shipments wanted), then shipments (kit, part).
-const STOCK: [Cell; 14] = [
-    Cell::Number(1),
-    Cell::Number(2),
-    Cell::Number(2),
-    Cell::Number(0),
-    Cell::Number(2),
-    Cell::Number(0),
-    Cell::Number(3),
-    Cell::Null,
-    Cell::Number(1),
-    Cell::Number(5),
-    Cell::Number(1),
-    Cell::Number(7),
-    Cell::Number(3),
-    Cell::Null,
-];
+pub const NULL: Cell = Cell::Null;
 
-const TABLES: [(usize, usize); 2] = [(2, 4), (2, 3)];
+pub const ZERO: Cell = Cell::Number(0);
+
+pub const ONE: Cell = Cell::Number(1);
+
+pub const TWO: Cell = Cell::Number(2);
+
+pub const THREE: Cell = Cell::Number(3);
+
+pub const KITS: Line = Line::Table {
+    table: dealer::KITS,
+};
+
+pub const SHIPMENTS: Line = Line::Table {
+    table: dealer::SHIPMENTS,
+};
 
 pub fn planned(lines: &[Line]) -> Result<FlatPlan, Fail> {
-    let Ok(query) = Query::check(lines, &Shelf::of(&STOCK, &TABLES)) else {
-        return Err(Fail::new("not accepted"));
-    };
-    let Ok(plan) = FlatPlan::unnest(&query) else {
-        return Err(Fail::new("not unnested"));
-    };
-    Ok(plan)
+    let query = Query::check(lines, &Shelf::of(&KITS_AND_SHIPMENTS, &TABLES))?;
+    Ok(FlatPlan::unnest(&query)?)
 }
 
 pub fn run_into(plan: &FlatPlan, cells: &mut [Cell]) -> Result<(usize, usize), Refusal> {
-    run(&Shelf::of(&STOCK, &TABLES), plan, cells)
+    run(&Shelf::of(&KITS_AND_SHIPMENTS, &TABLES), plan, cells)
+}
+
+// Only tests may stop the process, so no crate below can lend this to all test crates.
+pub fn refused<T: Drop>(rt: &impl Abort, answer: Result<T, Refusal>, number: usize, value: usize) {
+    let refusal = answer.err().map(|e| (e.number(), e.value()));
+    assert_eq!(rt; refusal, Some((number, value)));
 }
 
 // The cells hold these and NULLs behind them.
 pub fn hold(rt: &impl Abort, cells: &[Cell], expected: &[Cell]) {
     assert!(rt; expected.len() <= cells.len());
-    for (i, cell) in cells.iter().enumerate() {
-        if i < expected.len() {
-            assert!(rt; cell.same(expected[i]));
-        } else {
-            assert!(rt; cell.is_null());
-        }
-    }
+    let (rows, rest) = cells.split_at(expected.len());
+    assert_eq!(rt; rows, expected);
+    assert!(rt; rest.iter().all(|cell| cell.is_null()));
 }
 
-// With `need` cells the plan gives rows of this width, with one less its line comes back.
-pub fn needs(
-    rt: &impl Abort,
-    heap: Global,
+// With `need` cells the work gives rows of a width, as many as `size` says, with one less its line comes back.
+fn exactly<R: Abort + AllocGlobal, W: Fn(&mut [Cell]) -> Result<(usize, usize), Refusal>>(
+    rt: &R,
+    work: W,
+    need: usize,
+    line: usize,
+    size: (usize, usize),
+    expected: &[Cell],
+) -> Result<(), Fail>
+    requires { W.IsAlwaysCallable work }
+{
+    let mut lent = vec![in rt.alloc(); Cell::Number(9); need]?;
+    assert_eq!(rt; work(&mut lent), Ok(size));
+    hold(rt, &lent, expected);
+    let mut short = vec![in rt.alloc(); Cell::Number(9); need.saturating_sub(1)]?;
+    refused(rt, work(&mut short), 12, line);
+    hold(rt, &short, &[]);
+    Ok(())
+}
+
+// The lines' flat plan is run.
+pub fn needs<R: Abort + AllocGlobal>(
+    rt: &R,
     lines: &[Line],
     need: usize,
     line: usize,
-    rows: usize,
-    width: usize,
+    size: (usize, usize),
     expected: &[Cell],
 ) -> Result<(), Fail> {
     let plan = planned(lines)?;
-    let mut lent = vec![in heap; Cell::Number(9); need]?;
-    match run_into(&plan, &mut lent) {
-        Ok(counts) => assert_eq!(rt; counts, (rows, width)),
-        Err(_) => return Err(Fail::new("refused")),
-    }
-    hold(rt, &lent, expected);
-    let mut short = vec![in heap; Cell::Number(9); need.saturating_sub(1)]?;
-    match run_into(&plan, &mut short) {
-        Ok(_) => return Err(Fail::new("answered")),
-        Err(e) => assert_eq!(rt; (e.number(), e.value()), (12, line)),
-    }
-    hold(rt, &short, &[]);
-    Ok(())
+    exactly(
+        rt,
+        |cells: &mut [Cell]| run_into(&plan, cells),
+        need,
+        line,
+        size,
+        expected,
+    )
 }
 
-// The same of asking the query itself.
-pub fn asks(
-    rt: &impl Abort,
-    heap: Global,
+// The query itself is asked.
+pub fn asks<R: Abort + AllocGlobal>(
+    rt: &R,
     lines: &[Line],
     need: usize,
     line: usize,
-    rows: usize,
-    width: usize,
+    size: (usize, usize),
     expected: &[Cell],
 ) -> Result<(), Fail> {
-    let stock = Shelf::of(&STOCK, &TABLES);
-    let Ok(query) = Query::check(lines, &stock) else {
-        return Err(Fail::new("not accepted"));
-    };
-    let mut lent = vec![in heap; Cell::Number(9); need]?;
-    match ask(&stock, &query, &mut lent) {
-        Ok(counts) => assert_eq!(rt; counts, (rows, width)),
-        Err(_) => return Err(Fail::new("refused")),
-    }
-    hold(rt, &lent, expected);
-    let mut short = vec![in heap; Cell::Number(9); need.saturating_sub(1)]?;
-    match ask(&stock, &query, &mut short) {
-        Ok(_) => return Err(Fail::new("answered")),
-        Err(e) => assert_eq!(rt; (e.number(), e.value()), (12, line)),
-    }
-    hold(rt, &short, &[]);
-    Ok(())
+    let stock = Shelf::of(&KITS_AND_SHIPMENTS, &TABLES);
+    let query = Query::check(lines, &stock)?;
+    exactly(
+        rt,
+        |cells: &mut [Cell]| ask(&stock, &query, cells),
+        need,
+        line,
+        size,
+        expected,
+    )
 }

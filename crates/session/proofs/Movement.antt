@@ -12,7 +12,6 @@ use Rattle.movements.specs.Moves.{remaining, added_rows, added_count, moved, Nth
 use Rattle.movements.specs.Moving.{length_moved, rows_moved, rows_moved_past, length_added_rows}
 use Rattle.movements.specs.Shown.{items_of, Put, Taken}
 use Rattle.movements.specs.Shown.Taken.{below, own}
-use Rattle.movements.specs.declared.bounded.Bounded.{Bounded}
 use Rattle.movements.specs.declared.moved.Added.{Added}
 use Rattle.movements.specs.declared.moved.Hidden.{Hidden}
 use Rattle.session.specs.Model.{Entry, added, ModelTable, shown_rows, shown_tables, open_table, take_entry, added_at, is_added, is_hidden, count_by, added_in, hidden_in, entries_at, no_entries, with_added, with_taken, cleared}
@@ -20,9 +19,6 @@ use Rattle.session.specs.Requests.{add_refusal, withdraw_refusal}
 use Rattle.session.specs.Tracks.{TableTracks, PartsTrack}
 use Rattle.session.proofs.Entries.{count_append, added_olds, added_added, hidden_added, total_rewritten, hidden_take_entry, take_entry_front, take_entry_own, added_at_front, added_at_own, olds_take_entry}
 use Rattle.session.proofs.Tables.{each_open, each_shows, each_restored, each_length, each_at, each_rewritten, add_other, add_here, hide_other, hide_here, strike_here, strike_other, added_opened, hidden_opened}
-
-pub count_of : {X : Type 0} {n : ℕ} (b : Bounded X n) → length (items_of b) ≡ b.count
-count_of b = let s = b.small in let l = b.long in length-take-le b.count b.items (omega arith)
 
 -- no table is cut off, by added rows ms and withdrawals hs over the tables xs
 abbrev pub Whole : List Table → List Added → List Hidden → Type 0
@@ -41,7 +37,7 @@ in_tables ts n t row e =
     let rest : Option Refusal = elim (row_fault (width_of ts t) row) [ Some k ↦ Some (BadRow k) | None ↦ cond (ltb n 64 && ltb (rows_of ts t) 65535) None (Some NoRoom) ] in
     ⊎_elim
     (λ y. ltb-true t (length ts) y)
-    (λ z. let k = cond-false (ltb t (length ts)) rest (Some NotShown) z in let bad : ◌≡◌ {A = ℕ} 0 1 = cc in absurd (omega arith))
+    (λ z. let k = cond-false (ltb t (length ts)) rest (Some NotShown) z in cc)
     (cases_Bool (ltb t (length ts)))
 
 module _ (xs : List Table) (ms : List Added) (hs : List Hidden) (ts : List ModelTable) (p : PartsTrack xs ms hs ts) where

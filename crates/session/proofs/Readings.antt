@@ -1,5 +1,5 @@
 -- A reply that is the model's, in plain words.
-use Rattle.std.proofs.Common.{◌≡◌, ℕ, List, [], ◌∷◌, ◌++◌, Some, None, Option, refl, ap, ◌∙◌, arith}
+use Rattle.std.proofs.Common.{◌≡◌, ℕ, List, [], ◌∷◌, ◌++◌, Some, None, Option, refl, ap, ◌∙◌}
 use Rattle.cells.specs.Cells.{Row}
 use Rattle.cells.specs.declared.cell.Cell.{Cell}
 use Rattle.stock.specs.Tables.{Table, Lawful, widths}
@@ -21,7 +21,7 @@ module _ (ws : List ℕ) where
   often_run : (ts : List Table) → Lawful ts → widths ts ≡ ws → (moments : List Line → List Moment) (n : ℕ) (q p : Option (List Line)) → PlanLaw ws q p → read_refusal moments p n ≡ None
       → (r : Row) → count r (rows_given ts p) ≡ count r (rows_given ts q)
   often_run ts g w moments n None None l c r = refl
-  often_run ts g w moments n (Some q) None l c r = let bad : ◌≡◌ {A = ℕ} 0 1 = cc in absurd (omega arith)
+  often_run ts g w moments n (Some q) None l c r = cc
   often_run ts g w moments n None (Some p) l c r = absurd l
   often_run ts g w moments n (Some q) (Some p) l c r = l.0 ts g w r
 

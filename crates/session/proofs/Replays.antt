@@ -1,33 +1,30 @@
 -- A past that grows by one call.
-use Rattle.std.proofs.Common.{◌≡◌, ℕ, ◌+◌, ◌<◌, List, [], ◌∷◌, ◌++◌, map, length, get_or, take, drop, set, sym, refl, ap, ◌∙◌, subst, arith}
+use Rattle.std.proofs.Common.{◌≡◌, ℕ, ◌+◌, ◌<◌, List, [], ◌∷◌, ◌++◌, map, length, MatchResult, Result, Ok, Err, get_or, take, drop, set, sym, refl, ap, ◌∙◌, subst, arith}
 use Rattle.std.proofs.lemmas.List.{take_more, take_more_set, map_push, drop-set-lt, drop-drop, get_or-drop}
 use Rattle.cells.specs.declared.cell.Cell.{Cell}
 use Rattle.stock.specs.Tables.{Table}
 use Rattle.session.specs.Model.{Model}
 use Rattle.session.specs.Requests.{Request, step}
-use Rattle.session.specs.Replies.{reply, answer_due, cells_due}
-use Rattle.session.specs.Agrees.{Steps, Makes}
+use Rattle.session.specs.Replies.{told_size, reply}
+use Rattle.session.specs.Agrees.{Makes}
 use Rattle.session.specs.Law.{Replied, EachReplied}
 use Rattle.session.specs.Past.{request_of, lent, reply_of, after}
 use Rattle.session.specs.declared.calls.Answer.{Answer}
+use Rattle.session.specs.declared.calls.Answer.TheVariants.{Size, Refused}
+use Rattle.stock.specs.declared.refusal.Refusal.{Refusal}
 use Rattle.session.specs.declared.calls.Event.{Event}
 use Rattle.session.specs.declared.session.Session.{Session}
 use Rattle.session.proofs.Readings.{each_replied_push}
 
--- a call that leaves the lent cells alone, where q is what it was made of and b what was told of it
-pub makes : {X : Type 0} (tables : X → List Table) (s n : Session X) (q r : Request) (b a : Answer) (cells : List Cell)
-    → q ≡ r → b ≡ a → ((m : Model) → cells ≡ cells_due m r cells) → Steps tables s n r a → Makes tables s n q cells (reply b cells)
-makes tables s n q r b a cells e f still h =
-    subst (λ x. Makes tables s n x cells (reply b cells)) (sym e)
-    (subst (λ x. Makes tables s n r cells (reply x cells)) (sym f) (λ m ag. let k = h m ag in (k.0, ap (λ x. reply x cells) k.1 ∙ ap (reply (answer_due m r)) (still m))))
+-- what an answer was told
+pub told_size_is : (r : Result (ℕ × ℕ) Refusal) (a : Answer) → MatchResult r (λ p. a ≡ Size p.0 p.1) (λ e. a ≡ Refused e) → a ≡ told_size r
+told_size_is (Ok p) a h = h
+told_size_is (Err e) a h = h
 
--- a call that writes into lent cells, which it found as `now` and left as `done`
-pub makes_read : {X : Type 0} (tables : X → List Table) (s n : Session X) (q r : Request) (now cells done items : List Cell) (b a : Answer)
-    → q ≡ r → now ≡ cells → items ≡ done → b ≡ a → Makes tables s n r now (reply a done) → Makes tables s n q cells (reply b items)
-makes_read tables s n q r now cells done items b a e f g k h =
-    subst (λ x. Makes tables s n x cells (reply b items)) (sym e)
-    (subst (λ x. Makes tables s n r x (reply b items)) f
-    (subst (λ x. Makes tables s n r now (reply b x)) (sym g) (subst (λ x. Makes tables s n r now (reply x done)) (sym k) h)))
+-- a call made of q, with b told of it
+pub makes_read : {X : Type 0} (tables : X → List Table) (s n : Session X) (q r : Request) (before done : List Cell) (b a : Answer)
+    → q ≡ r → b ≡ a → Makes tables s n r before (reply a done) → Makes tables s n q before (reply b done)
+makes_read tables s n q r before done b a e f h = rw (e, f) h
 
 after_push : (m : Model) (es : List Event) (e : Event) → after m (es ++ e ∷ []) ≡ step (after m es) (request_of e)
 after_push m [] e = refl

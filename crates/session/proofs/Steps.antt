@@ -1,10 +1,11 @@
 -- Each call, from what it ensures to the model.
-use Rattle.std.proofs.Common.{◌≡◌, ℕ, suc, ◌<◌, cond, ltb, leb, List, [], ◌∷◌, map, length, take, IfOk, Some, None, Ok, Err, Option, Result, sym, refl, ap, ◌∙◌, subst, ⊎_elim, arith}
+use Rattle.std.proofs.Common.{◌≡◌, ℕ, suc, ◌<◌, cond, ltb, leb, List, [], ◌∷◌, map, length, take, IfOk, Some, None, Ok, Err, Option, Result, sym, refl, ap, ◌∙◌, subst, ⊎_elim}
 use Rattle.std.proofs.lemmas.Bool.{cases_Bool, ltb-true, cond-true, cond-false, le-leb, lt-leb}
 use Rattle.cells.specs.Cells.{Row}
 use Rattle.stock.specs.Tables.{Table, Lawful, widths, width_of, rows_of}
 use Rattle.stock.specs.declared.refusal.Refusal.{Refusal}
-use Rattle.stock.specs.declared.refusal.Refusal.TheVariants.{NotShown, NoRoom, NothingStands, LongPlan}
+use Rattle.stock.specs.declared.refusal.Refusal.TheVariants.{NotShown, NoRoom, LongPlan}
+use Rattle.arrayvec.specs.ArrayVec.{array_vec_len}
 use Rattle.movements.specs.Moves.{moved_from, add_cause, withdraw_cause}
 use Rattle.movements.specs.Moving.{moved_lawful}
 use Rattle.movements.specs.Shown.{items_of, shown, rows_remaining, Uncut, Put, Taken}
@@ -13,7 +14,7 @@ use Rattle.session.specs.Model.{Model, ModelTable, open_table, tables_of, shown_
 use Rattle.session.specs.Requests.{Request, lay, unnest, add, withdraw, clear, cause, changed, step, unless, add_refusal, withdraw_refusal, unnest_refusal, flat_of, with_tables}
 use Rattle.session.specs.Replies.{told, accepted, answer_due, lines_of as count_lines}
 use Rattle.session.specs.Tracks.{PartsTrack, Tracks}
-use Rattle.session.specs.Agrees.{Agrees, Steps, Unnests, UnnestedBy, unnest_cause, Adds, Withdraws, with_layer, with_plan, with_query}
+use Rattle.session.specs.Agrees.{Agrees, Steps, Adds, Withdraws, with_layer, with_plan, with_query}
 use Rattle.session.specs.declared.calls.Answer.{Answer}
 use Rattle.session.specs.declared.calls.Answer.TheVariants.{Count, Size, Refused}
 use Rattle.session.specs.declared.session.Session.{Session}
@@ -34,7 +35,7 @@ use Rattle.movements.specs.declared.moved.Hidden.{Hidden}
 use Rattle.session.specs.Checks.{lay_refusal}
 use Rattle.session.specs.Plans.{standing_lines, Fits, PlanFits, PlanLaw}
 use Rattle.session.proofs.Verdicts.{accepted_none, refused_some}
-use Rattle.session.proofs.Movement.{Whole, count_of, parts_open, parts_show, parts_cleared, parts_add, parts_taken, add_refusal_is, withdraw_refusal_is}
+use Rattle.session.proofs.Movement.{Whole, parts_open, parts_show, parts_cleared, parts_add, parts_taken, add_refusal_is, withdraw_refusal_is}
 
 -- any call: the model refuses it or makes it
 module _ {X : Type 0} (tables : X → List Table) (s n : Session X) (m : Model) (r : Request) where
@@ -52,13 +53,11 @@ module _ {X : Type 0} (tables : X → List Table) (s n : Session X) (m : Model) 
 
 -- a layer without movements
 module _ {X : Type 0} (tables : X → List Table) (n : Movements X) where
-  pub tracks_open : n.added.count ≡ 0 → n.hidden.count ≡ 0 → Uncut tables n → Tracks tables n (map open_table (tables n.below))
+  pub tracks_open : items_of n.added ≡ [] → items_of n.hidden ≡ [] → Uncut tables n → Tracks tables n (map open_table (tables n.below))
   tracks_open x y w =
       let xs = tables n.below in
-      let ea : items_of n.added ≡ [] = ap (λ k. take k n.added.items) x in
-      let eh : items_of n.hidden ≡ [] = ap (λ k. take k n.hidden.items) y in
-      subst (λ a. Whole xs a (items_of n.hidden) → PartsTrack xs a (items_of n.hidden) (map open_table xs)) (sym ea)
-      (subst (λ h. Whole xs [] h → PartsTrack xs [] h (map open_table xs)) (sym eh) (parts_open xs)) w
+      subst (λ a. Whole xs a (items_of n.hidden) → PartsTrack xs a (items_of n.hidden) (map open_table xs)) (sym x)
+      (subst (λ h. Whole xs [] h → PartsTrack xs [] h (map open_table xs)) (sym y) (parts_open xs)) w
 
 module _ {X : Type 0} (tables : X → List Table) (m : Movements X) (ts : List ModelTable) (tr : Tracks tables m ts) where
   pub tracks_show : shown_tables ts ≡ shown tables m
@@ -67,27 +66,26 @@ module _ {X : Type 0} (tables : X → List Table) (m : Movements X) (ts : List M
   pub tracks_lawful : Lawful (tables m.below) → Lawful (shown_tables ts)
   tracks_lawful g = subst Lawful (sym tracks_show) (moved_lawful (items_of m.added) (items_of m.hidden) (tables m.below) g)
 
-  pub add_refused_is : (t : ℕ) (row : Row) → add_refusal ts t row ≡ add_cause (shown tables m) m.added.count t row
+  pub add_refused_is : (t : ℕ) (row : Row) → add_refusal ts t row ≡ add_cause (shown tables m) (array_vec_len m.added) t row
   add_refused_is t row =
-      add_refusal_is (tables m.below) (items_of m.added) (items_of m.hidden) ts tr t row ∙ ap (λ k. add_cause (shown tables m) k t row) (count_of m.added)
+      add_refusal_is (tables m.below) (items_of m.added) (items_of m.hidden) ts tr t row
 
-  pub withdraw_refused_is : (t p : ℕ) → withdraw_refusal ts t p ≡ withdraw_cause (shown tables m) (rows_remaining tables m t) m.hidden.count t p
+  pub withdraw_refused_is : (t p : ℕ) → withdraw_refusal ts t p ≡ withdraw_cause (shown tables m) (rows_remaining tables m t) (array_vec_len m.hidden) t p
   withdraw_refused_is t p =
-      withdraw_refusal_is (tables m.below) (items_of m.added) (items_of m.hidden) ts tr t p ∙ ap (λ k. withdraw_cause (shown tables m) (rows_remaining tables m t) k t p) (count_of m.hidden)
+      withdraw_refusal_is (tables m.below) (items_of m.added) (items_of m.hidden) ts tr t p
 
   module _ (n : Movements X) (same : n.below ≡ m.below) where
-    pub tracks_clear : n.added.count ≡ 0 → n.hidden.count ≡ 0 → Uncut tables n → Tracks tables n (cleared ts)
+    pub tracks_clear : items_of n.added ≡ [] → items_of n.hidden ≡ [] → Uncut tables n → Tracks tables n (cleared ts)
     tracks_clear x y w =
         subst (Tracks tables n) (ap (λ z. map open_table (tables z)) same ∙ sym (parts_cleared (tables m.below) (items_of m.added) (items_of m.hidden) ts tr)) (tracks_open tables n x y w)
 
-    pub tracks_add : (t : ℕ) (row : Row) → add_cause (shown tables m) m.added.count t row ≡ None
+    pub tracks_add : (t : ℕ) (row : Row) → add_cause (shown tables m) (array_vec_len m.added) t row ≡ None
         → Put t (width_of (tables m.below) t) row (items_of m.added) (items_of n.added) → n.hidden ≡ m.hidden → Uncut tables n
         → Tracks tables n (with_added ts t row)
     tracks_add t row none put still w =
-        let none' = ap (λ k. add_cause (shown tables m) k t row) (count_of m.added) ∙ none in
         subst (λ z. Whole (tables z) (items_of n.added) (items_of n.hidden) → PartsTrack (tables z) (items_of n.added) (items_of n.hidden) (with_added ts t row)) (sym same)
         (subst (λ z. Whole (tables m.below) (items_of n.added) (items_of z) → PartsTrack (tables m.below) (items_of n.added) (items_of z) (with_added ts t row)) (sym still)
-        (parts_add (tables m.below) (items_of m.added) (items_of m.hidden) ts tr t row (items_of n.added) none' put)) w
+        (parts_add (tables m.below) (items_of m.added) (items_of m.hidden) ts tr t row (items_of n.added) none put)) w
 
     pub tracks_withdraw : (t p : ℕ) → p < rows_of (shown tables m) t
         → Taken t p (rows_remaining tables m t) (items_of m.added) (items_of m.hidden) (items_of n.added) (items_of n.hidden) → Uncut tables n
@@ -102,7 +100,7 @@ row_shown ts k n t p e =
     let rest : Option Refusal = cond (ltb p k) (cond (ltb n 64) None (Some NoRoom)) None in
     ⊎_elim
     (λ y. ltb-true p (rows_of ts t) y)
-    (λ z. let x = cond-false (ltb p (rows_of ts t)) rest (Some NotShown) z in let bad : ◌≡◌ {A = ℕ} 0 1 = cc in absurd (omega arith))
+    (λ z. let x = cond-false (ltb p (rows_of ts t)) rest (Some NotShown) z in cc)
     (cases_Bool (ltb p (rows_of ts t)))
 
 module _ {X : Type 0} (tables : X → List Table) (s : Session X) (n : Movements X) where
@@ -135,24 +133,16 @@ module _ {X : Type 0} (tables : X → List Table) (s : Session X) (n : Movements
   steps_withdraw t p (Ok k) h taken w m ag =
       let tr = ag.rows in
       let c = h.cause in
-      let l = row_shown (shown tables s.layer) (rows_remaining tables s.layer t) s.layer.hidden.count t p c.0 in
+      let l = row_shown (shown tables s.layer) (rows_remaining tables s.layer t) (array_vec_len s.layer.hidden) t p c.0 in
       let new = tracks_withdraw tables s.layer m.tables tr n c.2 t p l taken (w tr.uncut) in
       made tables s (with_layer s n) m (withdraw t p) (Count k) (withdraw_refused_is tables s.layer m.tables tr t p ∙ c.0) (moved_on (with_taken m.tables t p) m ag c.2 new)
       (ap Count ((h.shows tr.uncut).1 ∙ ap (λ x. rows_of x t) (sym (tracks_show tables n (with_taken m.tables t p) new))))
   steps_withdraw t p (Err e) h taken w m ag =
       refused tables s (with_layer s n) m (withdraw t p) e (withdraw_refused_is tables s.layer m.tables ag.rows t p ∙ h.cause.0) (ap (with_layer s) h.cause.1) ag
 
-  pub steps_clear : n.below ≡ s.layer.below → n.added.count ≡ 0 → n.hidden.count ≡ 0 → Uncut tables n → Steps tables s (with_layer s n) clear (Count 0)
+  pub steps_clear : n.below ≡ s.layer.below → items_of n.added ≡ [] → items_of n.hidden ≡ [] → Uncut tables n → Steps tables s (with_layer s n) clear (Count 0)
   steps_clear same x y w m ag =
       made tables s (with_layer s n) m clear (Count 0) refl (moved_on (cleared m.tables) m ag same (tracks_clear tables s.layer m.tables ag.rows n same x y w)) refl
-
-  pub same_add : (t : ℕ) (row : Row) (a : Result ℕ Refusal) → Adds tables s.layer n t row a → n.below ≡ s.layer.below
-  same_add t row (Ok k) h = h.3
-  same_add t row (Err e) h = ap (λ z. z.below) h.1
-
-  pub same_withdraw : (t p : ℕ) (a : Result ℕ Refusal) → Withdraws tables s.layer n t p a → n.below ≡ s.layer.below
-  same_withdraw t p (Ok k) h = h.cause.2
-  same_withdraw t p (Err e) h = ap (λ z. z.below) h.cause.1
 
 -- movements leave the widths
 widths_moved : (k : ℕ) (ms : List Added) (hs : List Hidden) (xs : List Table) → widths (moved_from k ms hs xs) ≡ widths xs
@@ -176,10 +166,6 @@ refused_lay tables s ls x why m ag =
     refused tables s s m (lay ls) x (ap (λ w. lay_refusal w ls) e ∙ refused_some (widths (shown tables s.layer)) ls x why) refl ag
 
 module _ {X : Type 0} (tables : X → List Table) (s : Session X) where
-  pub unnest_none : s.query ≡ None → Steps tables s s unnest (Refused NothingStands)
-  unnest_none e m ag =
-      refused tables s s m unnest NothingStands (ap (unnest_refusal (flat_lines (widths (tables_of m)))) (ag.query ∙ ap standing_lines e)) refl ag
-
   module _ (q : Query) (is : s.query ≡ Some q) (m : Model) (ag : Agrees tables s m) where
     lines : m.query ≡ Some (lines_of q)
     lines = ag.query ∙ ap standing_lines is
@@ -215,17 +201,3 @@ module _ {X : Type 0} (tables : X → List Table) (s : Session X) where
   pub unnest_long : (q : Query) (e : Refusal) → s.query ≡ Some q → Long.Refused q e → Steps tables s s unnest (Refused e)
   unnest_long q e is l m ag =
       refused tables s s m unnest e (cause_is q is m ag ∙ cond-false (leb (length (asked_lines q)) 512) None (Some LongPlan) (lt-leb (length (asked_lines q)) 512 l.over) ∙ ap Some (sym l.cause)) refl ag
-
--- what unnesting says of itself
-module _ {X : Type 0} (s : Session X) (q : Query) (is : s.query ≡ Some q) where
-  pub unnests : (p : FlatPlan) (k : ℕ) → Unnested q p → k ≡ length (plan_lines p) → Unnests s (with_plan s p) (Ok k)
-  unnests p k u n = (
-    ap unnest_cause is ∙ cond-true (leb (length (asked_lines q)) 512) None (Some LongPlan) (le-leb (length (asked_lines q)) 512 u.few),
-    subst (λ o. UnnestedBy o (Some p)) (sym is) u,
-    n,
-    refl,
-    refl,
-  )
-
-  pub unnests_not : (e : Refusal) → Long.Refused q e → Unnests s s (Err e)
-  unnests_not e l = (ap unnest_cause is ∙ cond-false (leb (length (asked_lines q)) 512) None (Some LongPlan) (lt-leb (length (asked_lines q)) 512 l.over) ∙ ap Some (sym l.cause), refl)

@@ -39,6 +39,7 @@ impl<S: Stock> Session<S> {
     }
 
     // Checks lines against the tables; accepted, they are the query. Answers the lines and the width.
+    #[tactic(auto, using(crate::proofs::Steps::refused_lay))]
     pub fn lay(&mut self, lines: &[Line]) -> Result<(usize, usize), Refusal>
         ensures made { Lays S.Stock.tables self.old self.new lines.now result }
         ensures steps { Steps S.Stock.tables self.old self.new (lay lines.now) (told_size result) }
@@ -52,14 +53,13 @@ impl<S: Stock> Session<S> {
     }
 
     // Sets the flat plan of the query that stands and answers its lines.
+    #[tactic(auto, using(crate::proofs::Steps::unnest_long))]
     pub fn unnest(&mut self) -> Result<usize, Refusal>
         ensures made { Unnests self.old self.new result }
         ensures steps { Steps S.Stock.tables self.old self.new unnest (told result) }
         ensures same { self.new.layer ≡ self.old.layer }
     {
-        let Some(query) = &self.query else {
-            return Err(Refusal::NothingStands);
-        };
+        let query = self.query.as_ref().ok_or(Refusal::NothingStands)?;
         let plan = FlatPlan::unnest(query)?;
         let count = plan.lines().len();
         self.plan = Some(plan);
@@ -85,9 +85,7 @@ impl<S: Stock> Session<S> {
         ensures made { Asks (shown S.Stock.tables self.now.layer) self.now.query cells.old cells.new result }
         ensures steps { Makes S.Stock.tables self.now self.now (ask (length cells.old)) cells.old (reply (told_size result) cells.new) }
     {
-        let Some(query) = &self.query else {
-            return Err(Refusal::NothingStands);
-        };
+        let query = self.query.as_ref().ok_or(Refusal::NothingStands)?;
         ask_query(&self.layer, query, cells)
     }
 
@@ -96,9 +94,7 @@ impl<S: Stock> Session<S> {
         ensures made { Runs (shown S.Stock.tables self.now.layer) self.now.plan cells.old cells.new result }
         ensures steps { Makes S.Stock.tables self.now self.now (run (length cells.old)) cells.old (reply (told_size result) cells.new) }
     {
-        let Some(plan) = &self.plan else {
-            return Err(Refusal::NothingStands);
-        };
+        let plan = self.plan().ok_or(Refusal::NothingStands)?;
         run_plan(&self.layer, plan, cells)
     }
 

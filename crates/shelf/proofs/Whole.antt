@@ -1,9 +1,9 @@
 -- The tables of a shelf that passes hold just the lent cells.
-use Rattle.std.proofs.Common.{◌≡◌, ℕ, zero, suc, ◌+◌, ◌-◌, ◌*◌, true, eqb, List, [], ◌∷◌, ◌++◌, length, take, drop, is_ok, Some, None, Option, sym, refl, ap, ◌∙◌, suc-mul, zero-mul, arith, take-append-drop, take-add}
+use Rattle.std.proofs.Common.{◌≡◌, ℕ, zero, suc, ◌+◌, ◌-◌, ◌*◌, eqb, List, [], ◌∷◌, ◌++◌, length, take, drop, Some, None, sym, refl, ap, ◌∙◌, suc-mul, zero-mul, arith, take-append-drop, take-add}
 use Rattle.std.proofs.lemmas.Bool.{cond-false, ne_eqb}
 use Rattle.std.specs.List.{flat_map}
 use Rattle.cells.specs.declared.cell.Cell.{Cell}
-use Rattle.shelf.specs.Cut.{rows_cut, cut, fault_from, fault, unless_fault, shelved, check_answer, laid_out}
+use Rattle.shelf.specs.Cut.{rows_cut, cut, fault_from, fault, unless_fault, shelved, laid_out}
 use Rattle.shelf.specs.Cutting.{fault_parts}
 
 rows_whole : (w r : ℕ) (cs : List Cell) → flat_map (λ x. x) (rows_cut w r cs) ≡ take (r * w) cs
@@ -28,9 +28,5 @@ whole_from i (p ∷ ps) cs e =
     ∙ ap (λ x. take n cs ++ x) (whole_from (suc i) ps (drop n cs) (fault_parts i p ps cs e).2)
     ∙ take-append-drop n cs
 
-pub whole : (ps : List (ℕ × ℕ)) (cs : List Cell) → is_ok (check_answer (fault ps cs) (length ps)) ≡ true → laid_out (shelved ps cs) ≡ cs
-whole ps cs h = go (fault ps cs) refl h
-  where
-    go : (o : Option ℕ) → fault ps cs ≡ o → is_ok (check_answer o (length ps)) ≡ true → laid_out (unless_fault (fault ps cs) (cut ps cs)) ≡ cs
-    go (Some i) e k = let z : ◌≡◌ {A = ℕ} 0 1 = cc in absurd (omega arith)
-    go None e k = ap (λ o. laid_out (unless_fault o (cut ps cs))) e ∙ whole_from 0 ps cs e
+pub whole : (ps : List (ℕ × ℕ)) (cs : List Cell) → fault ps cs ≡ None → laid_out (shelved ps cs) ≡ cs
+whole ps cs e = ap (λ o. laid_out (unless_fault o (cut ps cs))) e ∙ whole_from 0 ps cs e

@@ -29,11 +29,12 @@ fault_from i (p ∷ ps) cs = cond (nat_lt i 16) (cond (fits p cs) (fault_from (s
 abbrev pub fault : List (ℕ × ℕ) → List Cell → Option ℕ
 fault ps cs = fault_from 0 ps cs
 
--- the tables of a shelf, none where the check fails
-abbrev pub unless_fault : Option ℕ → List Table → List Table
-unless_fault (Some i) ts = []
-unless_fault None ts = ts
+-- what a shelf shows of its tables: all, and none where the check fails
+abbrev pub unless_fault : {X : Type 0} → Option ℕ → List X → List X
+unless_fault (Some i) xs = []
+unless_fault None xs = xs
 
+-- the tables of a shelf
 abbrev pub shelved : List (ℕ × ℕ) → List Cell → List Table
 shelved ps cs = unless_fault (fault ps cs) (cut ps cs)
 

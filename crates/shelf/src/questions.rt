@@ -14,13 +14,7 @@ impl<'a> Shelf<'a> {
         ensures width { result.0 ≡ width_of (shelved self.now.pairs.now self.now.cells.now) table }
         ensures rows { result.1 ≡ rows_of (shelved self.now.pairs.now self.now.cells.now) table }
     {
-        if self.failed {
-            return (0, 0);
-        }
-        if table >= self.pairs.len() {
-            return (0, 0);
-        }
-        self.pairs[table]
+        self.shown.get(table).copied().unwrap_or((0, 0))
     }
 
     // Where a table's cells begin.
@@ -28,12 +22,10 @@ impl<'a> Shelf<'a> {
         requires { table < length (shelved self.now.pairs.now self.now.cells.now) }
         ensures { result ≡ offset (take table self.now.pairs.now) }
     {
-        let mut at = 0;
-        for i in 0..table {
-            let (w, r) = self.pairs[i];
-            at += r * w;
-        }
-        at
+        self.shown[..table]
+            .iter()
+            .map(|&(width, rows)| rows * width)
+            .sum()
     }
 }
 
@@ -43,7 +35,7 @@ impl<'a> Stock for Shelf<'a> {
     ghost lawful = { λ s. shelved_lawful s.pairs.now s.cells.now };
 
     fn table_count(&self) -> usize {
-        if self.failed { 0 } else { self.pairs.len() }
+        self.shown.len()
     }
 
     fn width(&self, table: usize) -> usize {
@@ -54,15 +46,12 @@ impl<'a> Stock for Shelf<'a> {
         self.pair_at(table).1
     }
 
+    #[tactic(auto, using(crate::proofs::Showing::cell_inside))]
     fn cell(&self, table: usize, place: usize, column: usize) -> Cell {
-        let (w, r) = self.pair_at(table);
-        if place >= r {
+        let (width, rows) = self.pair_at(table);
+        if place >= rows || column >= width {
             return Cell::Null;
         }
-        if column >= w {
-            return Cell::Null;
-        }
-        let at = self.start(table);
-        self.cells[at + place * w + column]
+        self.cells[self.start(table) + place * width + column]
     }
 }

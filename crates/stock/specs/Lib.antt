@@ -1,3 +1,4 @@
 pub mod Tables
 pub mod Refusals
 pub mod Tabled
+pub mod Pairs

@@ -2,6 +2,7 @@
 #![tactic(auto)]
 
 pub mod lent;
+pub mod limits;
 pub mod pair;
 pub mod refusal;
 pub mod ruler;

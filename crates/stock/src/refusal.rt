@@ -2,8 +2,11 @@
 ghost use Rattle.std.specs.Prelude.{◌≡◌};
 ghost use Rattle.stock.specs.Refusals.{number_of, value_of};
 
+use std::error::Error;
+use std::fmt;
+
 // Each case has a number of its own and carries the value that is returned with it.
-#[derive(Clone, Copy)]
+#[derive(Clone, Copy, Debug, PartialEq, Eq)]
 pub enum Refusal {
     // a query of no line or of over 32: how many
     LineCount(usize),
@@ -67,18 +70,32 @@ impl Refusal {
         ensures { result ≡ value_of self }
     {
         match self {
-            Refusal::LineCount(n) => n,
-            Refusal::Operand(line) => line,
-            Refusal::Reading(line) => line,
-            Refusal::UnknownTable(line) => line,
-            Refusal::Misfit(line) => line,
-            Refusal::LongRow(line) => line,
-            Refusal::UnknownColumn(line) => line,
-            Refusal::SumOfSum(line) => line,
-            Refusal::CellsOut(line) => line,
-            Refusal::BadRow(column) => column,
-            Refusal::BadTable(table) => table,
-            _ => 0,
+            Refusal::LineCount(value)
+            | Refusal::Operand(value)
+            | Refusal::Reading(value)
+            | Refusal::UnknownTable(value)
+            | Refusal::Misfit(value)
+            | Refusal::LongRow(value)
+            | Refusal::UnknownColumn(value)
+            | Refusal::SumOfSum(value)
+            | Refusal::CellsOut(value)
+            | Refusal::BadRow(value)
+            | Refusal::BadTable(value) => value,
+            Refusal::NothingStands
+            | Refusal::LongPlan
+            | Refusal::ManyCells
+            | Refusal::NotShown
+            | Refusal::NoRoom => 0,
         }
     }
 }
+
+impl fmt::Display for Refusal {
+    fn fmt<W: fmt::Write>(&self, f: &mut fmt::Formatter<W>) -> fmt::Result {
+        let number = self.number();
+        let value = self.value();
+        write!(f, "number {number}, value {value}")
+    }
+}
+
+impl Error for Refusal {}

@@ -17,7 +17,9 @@ impl Ruler {
     pub fn of(n: u16) -> Ruler
         ensures { result.size ≡ n }
     {
-        Ruler { size: n as usize }
+        Ruler {
+            size: usize::from(n),
+        }
     }
 }
 

@@ -1,90 +1,31 @@
 // Queries: lines, the check, the flat plan and its run.
-use crate::words::answers::refused;
+use crate::answers::{refused, tell_rows};
 use cells::cell::Cell;
 use cells::sign::Sign;
-use commands::written::Written;
+use dealer::REORDER;
 use evaluate::run::run;
-use lines::line::{Aggregate, Line, Side};
+use lines::line::{Line, Side};
 use query::query::Query;
 use std::io;
 use stock::stock::Stock;
 use unnest::plan::FlatPlan;
 
-// The kits whose column 1 is the number of their shipments; the last comparison is by a given column.
-pub fn reorder(compared: usize) -> [Line; 9] {
-    [
-        Line::Table { table: 0 },
-        Line::Table { table: 1 },
-        Line::Compare {
-            sign: Sign::Equal,
-            left: Side::Column(0),
-            right: Side::Column(2),
-        },
-        Line::Select {
-            rows: 1,
-            condition: 2,
-        },
-        Line::Total {
-            aggregate: Aggregate::Rows,
-            column: 0,
-            rows: 3,
-        },
-        Line::ApplyCross { left: 0, right: 4 },
-        Line::Compare {
-            sign: Sign::Equal,
-            left: Side::Column(1),
-            right: Side::Column(compared),
-        },
-        Line::Select {
-            rows: 5,
-            condition: 6,
-        },
-        Line::Keep {
-            first: 2,
-            last: 0,
-            rows: 7,
-        },
-    ]
-}
-
 fn list(rt: &HostRuntime, lines: &[Line]) -> io::Result<()> {
     for (i, line) in lines.iter().enumerate() {
-        let words = Written(*line);
-        println!(rt; "  {i} {words}")?;
-    }
-    Ok(())
-}
-
-// Rows as they lie in lent cells.
-pub fn show_rows(rt: &HostRuntime, cells: &[Cell], rows: usize, width: usize) -> io::Result<()> {
-    let mut place = 0usize;
-    for _ in 0..rows {
-        print!(rt; "  (")?;
-        for column in 0..width {
-            if column > 0 {
-                print!(rt; ", ")?;
-            }
-            let cell = cells.get(place).copied().unwrap_or(Cell::Null);
-            print!(rt; "{cell}")?;
-            place = place.saturating_add(1);
-        }
-        println!(rt; ")")?;
+        println!(rt; "  {i} {line}")?;
     }
     Ok(())
 }
 
 fn answered<S: Stock>(rt: &HostRuntime, plan: &FlatPlan, stock: &S) -> io::Result<()> {
-    let mut few = [Cell::Null; 114];
     println!(rt; "Run with 114 lent cells, it lacks one:")?;
-    if let Err(refusal) = run(stock, plan, &mut few) {
-        refused(rt, refusal)?;
-    }
-    let mut cells = [Cell::Null; 115];
+    let mut few = [Cell::Null; 114];
+    let answer = run(stock, plan, &mut few);
+    tell_rows(rt, answer, &few)?;
     println!(rt; "Run with 115, it answers with the kits:")?;
-    match run(stock, plan, &mut cells) {
-        Ok((rows, width)) => show_rows(rt, &cells, rows, width),
-        Err(refusal) => refused(rt, refusal),
-    }
+    let mut cells = [Cell::Null; 115];
+    let answer = run(stock, plan, &mut cells);
+    tell_rows(rt, answer, &cells)
 }
 
 fn unnested<S: Stock>(rt: &HostRuntime, query: &Query, stock: &S) -> io::Result<()> {
@@ -112,10 +53,15 @@ fn checked<S: Stock>(rt: &HostRuntime, lines: &[Line], stock: &S) -> io::Result<
 
 pub fn ask_for_kits<S: Stock>(rt: &HostRuntime, stock: &S) -> io::Result<()> {
     println!(rt; "A query: the kits whose second column is the number of their shipments.")?;
-    let lines = reorder(2);
-    list(rt, &lines)?;
+    list(rt, &REORDER)?;
     println!(rt; "With column 9 in line 6, which no row has, the check says:")?;
-    checked(rt, &reorder(9), stock)?;
+    let mut lines = REORDER;
+    lines[6] = Line::Compare {
+        sign: Sign::Equal,
+        left: Side::Column(1),
+        right: Side::Column(9),
+    };
+    checked(rt, &lines, stock)?;
     println!(rt; "As it is, the check says:")?;
-    checked(rt, &lines, stock)
+    checked(rt, &REORDER, stock)
 }

@@ -1,27 +1,18 @@
 // Stocks: a shelf, a layer over it, movements and refusals.
-use crate::words::answers::tell;
+use crate::answers::{tell, tell_row};
 use cells::cell::Cell;
+use dealer::{KITS, SHIPMENTS};
 use movements::movements::Movements;
 use std::io;
 use stock::stock::Stock;
-
-const KITS: usize = 0;
-
-const SHIPMENTS: usize = 1;
 
 // The rows of a table, on one line.
 fn show<S: Stock>(rt: &HostRuntime, name: &str, stock: &S, table: usize) -> io::Result<()> {
     print!(rt; "  {name}:")?;
     for place in 0..stock.row_count(table) {
-        print!(rt; " (")?;
-        for column in 0..stock.width(table) {
-            if column > 0 {
-                print!(rt; ", ")?;
-            }
-            let cell = stock.cell(table, place, column);
-            print!(rt; "{cell}")?;
-        }
-        print!(rt; ")")?;
+        print!(rt; " ")?;
+        let columns = 0..stock.width(table);
+        tell_row(rt, columns.map(|column| stock.cell(table, place, column)))?;
     }
     println!(rt; "")
 }

@@ -1,14 +1,13 @@
 -- Each kind's flat lines and counts, from its operands.
 use Rattle.std.proofs.Common.{◌≡◌, ℕ, ◌≤◌, false, List, [], ◌∷◌, refl, arith}
-use Rattle.cells.specs.declared.sign.Sign.{Sign}
 use Rattle.lines.specs.declared.line.Aggregate.{Aggregate}
 use Rattle.lines.specs.declared.line.Line.{Line}
 use Rattle.lines.specs.declared.line.Line.TheVariants.{Table as TableL, Unit as UnitL, Select, Keep, Extend, ExtendTruth, Pad, Match, SemiMatch, AntiMatch, Union, Diff, Distinct, Group, Total, ApplyCross, ApplyOuter, ApplySemi, ApplyAnti, ApplySome, ApplyAll, Compare, IsNull, Not, Unknown as UnknownL, And, Or}
-use Rattle.lines.specs.Lines.{Node, as_rows, build}
+use Rattle.lines.specs.Lines.{Node, as_rows, as_cond, build}
 use Rattle.lines.specs.Marks.{Marks, Sound}
 use Rattle.lines.specs.Shapes.{shape_of, is_condition}
-use Rattle.unnest.specs.Emit.{Place, breadth, emit}
-use Rattle.unnest.specs.Kinds.{own_count, raised, own_lines, apply_own, rows_of, lines_by}
+use Rattle.unnest.specs.Emit.{Place, breadth, emit_condition, emit}
+use Rattle.unnest.specs.Kinds.{own_count, raised, own_lines, rows_of, lines_by, condition_by}
 use Rattle.lines.proofs.Soundness.{short}
 
 -- a line with rows that is neither a leaf nor a Total
@@ -45,43 +44,6 @@ rest_lines (UnknownL a) x i j n h p0 p1 p2 = cc
 rest_lines (And a b) x i j n h p0 p1 p2 = cc
 rest_lines (Or a b) x i j n h p0 p1 p2 = cc
 
--- a line that is no Apply
-pub no_apply : (l : Line) (w m i j n : ℕ)
-    → ((a : ℕ) (b : ℕ) → l ≡ ApplyCross a b → ⊥)
-    → ((a : ℕ) (b : ℕ) → l ≡ ApplyOuter a b → ⊥)
-    → ((a : ℕ) (b : ℕ) → l ≡ ApplySemi a b → ⊥)
-    → ((a : ℕ) (b : ℕ) → l ≡ ApplyAnti a b → ⊥)
-    → ((s : Sign) (k : ℕ) (a : ℕ) (b : ℕ) → l ≡ ApplySome s k a b → ⊥)
-    → ((s : Sign) (k : ℕ) (a : ℕ) (b : ℕ) → l ≡ ApplyAll s k a b → ⊥)
-    → apply_own l w m i j n ≡ l ∷ []
-no_apply (TableL t) w m i j n p0 p1 p2 p3 p4 p5 = refl
-no_apply UnitL w m i j n p0 p1 p2 p3 p4 p5 = refl
-no_apply (Select a q) w m i j n p0 p1 p2 p3 p4 p5 = refl
-no_apply (Keep p z a) w m i j n p0 p1 p2 p3 p4 p5 = refl
-no_apply (Extend a v) w m i j n p0 p1 p2 p3 p4 p5 = refl
-no_apply (ExtendTruth a q) w m i j n p0 p1 p2 p3 p4 p5 = refl
-no_apply (Pad z a) w m i j n p0 p1 p2 p3 p4 p5 = refl
-no_apply (Match p a b) w m i j n p0 p1 p2 p3 p4 p5 = refl
-no_apply (SemiMatch p a b) w m i j n p0 p1 p2 p3 p4 p5 = refl
-no_apply (AntiMatch p a b) w m i j n p0 p1 p2 p3 p4 p5 = refl
-no_apply (Union a b) w m i j n p0 p1 p2 p3 p4 p5 = refl
-no_apply (Diff a b) w m i j n p0 p1 p2 p3 p4 p5 = refl
-no_apply (Distinct a) w m i j n p0 p1 p2 p3 p4 p5 = refl
-no_apply (Group p f k a) w m i j n p0 p1 p2 p3 p4 p5 = refl
-no_apply (Total f k a) w m i j n p0 p1 p2 p3 p4 p5 = refl
-no_apply (ApplyCross a b) w m i j n p0 p1 p2 p3 p4 p5 = absurd (p0 a b refl)
-no_apply (ApplyOuter a b) w m i j n p0 p1 p2 p3 p4 p5 = absurd (p1 a b refl)
-no_apply (ApplySemi a b) w m i j n p0 p1 p2 p3 p4 p5 = absurd (p2 a b refl)
-no_apply (ApplyAnti a b) w m i j n p0 p1 p2 p3 p4 p5 = absurd (p3 a b refl)
-no_apply (ApplySome s k a b) w m i j n p0 p1 p2 p3 p4 p5 = absurd (p4 s k a b refl)
-no_apply (ApplyAll s k a b) w m i j n p0 p1 p2 p3 p4 p5 = absurd (p5 s k a b refl)
-no_apply (Compare s a b) w m i j n p0 p1 p2 p3 p4 p5 = refl
-no_apply (IsNull k) w m i j n p0 p1 p2 p3 p4 p5 = refl
-no_apply (Not a) w m i j n p0 p1 p2 p3 p4 p5 = refl
-no_apply (UnknownL a) w m i j n p0 p1 p2 p3 p4 p5 = refl
-no_apply (And a b) w m i j n p0 p1 p2 p3 p4 p5 = refl
-no_apply (Or a b) w m i j n p0 p1 p2 p3 p4 p5 = refl
-
 -- the flat lines of a line, from its operands'
 pub emit_by : (ws : List ℕ) (o : List Node) (l : Line) (x : Place) (n : ℕ) → emit ws (as_rows (build o l)) x n ≡ lines_by ws o l x n (shape_of l)
 unfolding emit build
@@ -112,6 +74,37 @@ emit_by ws o (Not a) x n = refl
 emit_by ws o (UnknownL a) x n = refl
 emit_by ws o (And a b) x n = refl
 emit_by ws o (Or a b) x n = refl
+
+-- the flat lines of a condition, from its parts'
+pub condition_is : (o : List Node) (l : Line) (n : ℕ) → emit_condition (as_cond (build o l)) n ≡ condition_by o l n (shape_of l)
+unfolding emit_condition build
+condition_is o (TableL t) n = refl
+condition_is o UnitL n = refl
+condition_is o (Select a q) n = refl
+condition_is o (Keep p z a) n = refl
+condition_is o (Extend a v) n = refl
+condition_is o (ExtendTruth a q) n = refl
+condition_is o (Pad z a) n = refl
+condition_is o (Match p a b) n = refl
+condition_is o (SemiMatch p a b) n = refl
+condition_is o (AntiMatch p a b) n = refl
+condition_is o (Union a b) n = refl
+condition_is o (Diff a b) n = refl
+condition_is o (Distinct a) n = refl
+condition_is o (Group p f k a) n = refl
+condition_is o (Total f k a) n = refl
+condition_is o (ApplyCross a b) n = refl
+condition_is o (ApplyOuter a b) n = refl
+condition_is o (ApplySemi a b) n = refl
+condition_is o (ApplyAnti a b) n = refl
+condition_is o (ApplySome s k a b) n = refl
+condition_is o (ApplyAll s k a b) n = refl
+condition_is o (Compare s a b) n = refl
+condition_is o (IsNull k) n = refl
+condition_is o (Not a) n = refl
+condition_is o (UnknownL a) n = refl
+condition_is o (And a b) n = refl
+condition_is o (Or a b) n = refl
 
 -- counts of own columns are small in a sound line
 pub count_small : (ws : List ℕ) (d : Marks) (o : List Node) (l : Line) → Sound ws d (as_rows (build o l)) → own_count l ≤ 32

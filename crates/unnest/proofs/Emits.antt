@@ -1,5 +1,5 @@
 -- The emitted lines stand for the flat tree.
-use Rattle.std.proofs.Common.{◌≡◌, ℕ, ◌+◌, ◌-◌, ◌<◌, List, [], ◌∷◌, ◌++◌, length, pos, sym, refl, ap, ◌∙◌, subst, add-zero, add_assoc, zero-add, arith}
+use Rattle.std.proofs.Common.{◌≡◌, ℕ, ◌+◌, ◌-◌, ◌<◌, List, [], ◌∷◌, ◌++◌, length, None, Some, ℤ, pos, sym, refl, ap, ◌∙◌, subst, add-zero, zero-add, arith}
 use Rattle.std.proofs.lemmas.List.{append_assoc, append-nil, length-append, length_push, get_or_append_left, get_or_push, get_or-append-add}
 use Rattle.cells.specs.declared.cell.Cell.{Cell}
 use Rattle.cells.specs.declared.cell.Cell.TheVariants.{Null, Number}
@@ -12,8 +12,8 @@ use Rattle.lines.specs.declared.line.Line.{Line}
 use Rattle.lines.specs.declared.line.Line.TheVariants.{Table as TableL, Unit as UnitL, Select, Keep, Extend, ExtendTruth, Pad, Match, SemiMatch, AntiMatch, Union, Diff, Distinct, Group, Total, Compare, IsNull, Not, Unknown as UnknownL, And, Or}
 use Rattle.lines.specs.declared.line.Side.TheVariants.{Column, Constant}
 use Rattle.lines.proofs.Growing.{grow_append, grow_length}
-use Rattle.unnest.specs.Emit.{Place, outermost, inside, breadth, chain, emit_condition, emit, spread_lines, total_lines, cell_line, outer_lines, some_lines, all_lines}
-use Rattle.unnest.specs.Flat.{Ctx, top, under, cols, flat, spread, totalled, with_cell, flat_outer, flat_some, flat_all}
+use Rattle.unnest.specs.Emit.{Place, outermost, inside, breadth, chain, emit_condition, emit, spread_lines, total_lines, cell_line, outer_lines, quant_lines, some_lines, all_lines}
+use Rattle.unnest.specs.Flat.{Ctx, top, under, cols, flat, spread, totalled, with_cell, flat_outer, flat_quant, flat_some, flat_all}
 
 pub grow_chain : (o : List Node) (a : List Line) (k : ℕ → List Line) → grow o (chain (length o) a k) ≡ grow (grow o a) (k (length (grow o a)))
 grow_chain o a k = grow_append o a (k (length o + length a)) ∙ ap (λ v. grow (grow o a) (k v)) (sym (grow_length o a))
@@ -113,6 +113,37 @@ at_new o n i = get_or-append-add o n i (rows_node unit)
 pub at_first : (o n : List Node) (x : Node) → at (o ++ (x ∷ n)) (length o) ≡ x
 at_first o n x = ap (at (o ++ (x ∷ n))) (sym (add-zero (length o))) ∙ at_new o (x ∷ n) 0
 
+-- lines behind lines that stand for known nodes
+pub behind : (o : List Node) (front rest : List Line) (ys : List Node) (y : Node) → Runs o [] front ys → Step (o ++ ys) (grow (o ++ ys) rest) y → Step o (grow o (front ++ rest)) y
+behind o front rest ys y h s =
+    let e : grow o front ≡ o ++ ys = ap (λ v. grow v front) (sym (append-nil o)) ∙ run_grow o [] front ys h in
+    step_to (grow_append o front rest ∙ ap (λ v. grow v rest) e) (record {
+      grew = omega (arith, s.grew, length-append o ys);
+      kept = λ i k. s.kept i (omega (arith, length-append o ys)) ∙ at_old o ys i k;
+      made = s.made;
+    })
+
+-- the lines that some and all share, over their operands
+step_quant : (won lost : ℤ) (p : List Node) (w l a b : ℕ) (L A B : Tree) → l < length p → a < length p → b < length p → at p l ≡ rows_node L → at p a ≡ rows_node A → at p b ≡ rows_node B
+    → Step p (grow p (quant_lines won lost w l a b (length p))) (rows_node (flat_quant won lost w L A B))
+unfolding build
+step_quant won lost p w l a b L A B hl ha hb el ea eb =
+    let T0 : Tree = semi_match w L A in
+    let T2 : Tree = anti_match w L A in
+    let T3 : Tree = semi_match w T2 B in
+    let T5 : Tree = anti_match w T2 B in
+    let T1 : Tree = extend T0 (Constant won) in
+    let T4 : Tree = pad 1 T3 in
+    run_step p (quant_lines won lost w l a b (length p))
+    (rows_node T0 ∷ rows_node T1 ∷ rows_node T2 ∷ rows_node T3 ∷ rows_node T4 ∷ rows_node T5 ∷ rows_node (extend T5 (Constant lost)) ∷ rows_node (union T1 T4) ∷ [])
+    (rows_node (flat_quant won lost w L A B)) (
+      simp (at_old, el, ea),
+      (
+        simp at_first,
+        (simp (at_old, el, ea), (simp (at_new, at_old, eb), (simp at_new, (simp (at_new, at_old, eb), (simp at_new, (simp at_new, (simp at_new, tt))))))),
+      ),
+    )
+
 module _ (o : List Node) (l r : ℕ) (L R : Tree) (hl : l < length o) (hr : r < length o) (el : at o l ≡ rows_node L) (er : at o r ≡ rows_node R) (w : ℕ) where
   step_outer : (m : ℕ) → Step o (grow o (outer_lines m w l r (length o))) (rows_node (flat_outer m w L R))
   unfolding build
@@ -123,46 +154,54 @@ module _ (o : List Node) (l r : ℕ) (L R : Tree) (hl : l < length o) (hr : r < 
   step_some : (g : Sign) (k : ℕ) → Step o (grow o (some_lines g k w l r (length o))) (rows_node (flat_some g k w L R))
   unfolding build
   step_some g k =
-      run_step o (some_lines g k w l r (length o))
-      (cond_node (compare g (Column k) (Column w)) ∷ cond_node (unknown_of (compare g (Column k) (Column w))) ∷ rows_node (select R (compare g (Column k) (Column w))) ∷ rows_node (select R (unknown_of (compare g (Column k) (Column w)))) ∷ rows_node (semi_match w L (select R (compare g (Column k) (Column w)))) ∷ rows_node (extend (semi_match w L (select R (compare g (Column k) (Column w)))) (Constant (pos 1))) ∷ rows_node (anti_match w L (select R (compare g (Column k) (Column w)))) ∷ rows_node (semi_match w (anti_match w L (select R (compare g (Column k) (Column w)))) (select R (unknown_of (compare g (Column k) (Column w))))) ∷ rows_node (pad 1 (semi_match w (anti_match w L (select R (compare g (Column k) (Column w)))) (select R (unknown_of (compare g (Column k) (Column w)))))) ∷ rows_node (anti_match w (anti_match w L (select R (compare g (Column k) (Column w)))) (select R (unknown_of (compare g (Column k) (Column w))))) ∷ rows_node (extend (anti_match w (anti_match w L (select R (compare g (Column k) (Column w)))) (select R (unknown_of (compare g (Column k) (Column w))))) (Constant (pos 0))) ∷ rows_node (union (extend (semi_match w L (select R (compare g (Column k) (Column w)))) (Constant (pos 1))) (pad 1 (semi_match w (anti_match w L (select R (compare g (Column k) (Column w)))) (select R (unknown_of (compare g (Column k) (Column w))))))) ∷ [])
-      (rows_node (flat_some g k w L R))
-      (refl, (simp (add_assoc, at_new, at_first, at_old, el, er), (simp (add_assoc, at_new, at_first, at_old, el, er), (simp (add_assoc, at_new, at_first, at_old, el, er), (simp (add_assoc, at_new, at_first, at_old, el, er), (simp (add_assoc, at_new, at_first, at_old, el, er), (simp (add_assoc, at_new, at_first, at_old, el, er), (simp (add_assoc, at_new, at_first, at_old, el, er), (simp (add_assoc, at_new, at_first, at_old, el, er), (simp (add_assoc, at_new, at_first, at_old, el, er), (simp (add_assoc, at_new, at_first, at_old, el, er), (simp (add_assoc, at_new, at_first, at_old, el, er), (simp (add_assoc, at_new, at_first, at_old, el, er), tt)))))))))))))
+      let q : Cond = compare g (Column k) (Column w) in
+      let n : ℕ = length o in
+      let ys : List Node = cond_node q ∷ cond_node (unknown_of q) ∷ rows_node (select R q) ∷ rows_node (select R (unknown_of q)) ∷ [] in
+      let len = length-append o ys in
+      behind o (Compare g (Column k) (Column w) ∷ UnknownL n ∷ Select r n ∷ Select r (n + 1) ∷ []) (quant_lines (pos 1) (pos 0) w l (n + 2) (n + 3) (n + 4)) ys (rows_node (flat_some g k w L R))
+      (refl, (simp at_first, (simp (at_old, at_first, er), (simp (at_old, at_new, er), tt))))
+      (subst (λ v. Step (o ++ ys) (grow (o ++ ys) (quant_lines (pos 1) (pos 0) w l (n + 2) (n + 3) v)) (rows_node (flat_some g k w L R))) len
+      (step_quant (pos 1) (pos 0) (o ++ ys) w l (n + 2) (n + 3) L (select R q) (select R (unknown_of q)) (omega arith) (omega arith) (omega arith) (at_old o ys l hl ∙ el) (at_new o ys 2) (at_new o ys 3)))
 
   step_all : (g : Sign) (k : ℕ) → Step o (grow o (all_lines g k w l r (length o))) (rows_node (flat_all g k w L R))
   unfolding build
   step_all g k =
-      run_step o (all_lines g k w l r (length o))
-      (cond_node (compare g (Column k) (Column w)) ∷ cond_node (unknown_of (compare g (Column k) (Column w))) ∷ cond_node (not_of (compare g (Column k) (Column w))) ∷ rows_node (select R (not_of (compare g (Column k) (Column w)))) ∷ rows_node (select R (unknown_of (compare g (Column k) (Column w)))) ∷ rows_node (semi_match w L (select R (not_of (compare g (Column k) (Column w))))) ∷ rows_node (extend (semi_match w L (select R (not_of (compare g (Column k) (Column w))))) (Constant (pos 0))) ∷ rows_node (anti_match w L (select R (not_of (compare g (Column k) (Column w))))) ∷ rows_node (semi_match w (anti_match w L (select R (not_of (compare g (Column k) (Column w))))) (select R (unknown_of (compare g (Column k) (Column w))))) ∷ rows_node (pad 1 (semi_match w (anti_match w L (select R (not_of (compare g (Column k) (Column w))))) (select R (unknown_of (compare g (Column k) (Column w)))))) ∷ rows_node (anti_match w (anti_match w L (select R (not_of (compare g (Column k) (Column w))))) (select R (unknown_of (compare g (Column k) (Column w))))) ∷ rows_node (extend (anti_match w (anti_match w L (select R (not_of (compare g (Column k) (Column w))))) (select R (unknown_of (compare g (Column k) (Column w))))) (Constant (pos 1))) ∷ rows_node (union (extend (semi_match w L (select R (not_of (compare g (Column k) (Column w))))) (Constant (pos 0))) (pad 1 (semi_match w (anti_match w L (select R (not_of (compare g (Column k) (Column w))))) (select R (unknown_of (compare g (Column k) (Column w))))))) ∷ [])
-      (rows_node (flat_all g k w L R))
-      (refl, (simp (add_assoc, at_new, at_first, at_old, el, er), (simp (add_assoc, at_new, at_first, at_old, el, er), (simp (add_assoc, at_new, at_first, at_old, el, er), (simp (add_assoc, at_new, at_first, at_old, el, er), (simp (add_assoc, at_new, at_first, at_old, el, er), (simp (add_assoc, at_new, at_first, at_old, el, er), (simp (add_assoc, at_new, at_first, at_old, el, er), (simp (add_assoc, at_new, at_first, at_old, el, er), (simp (add_assoc, at_new, at_first, at_old, el, er), (simp (add_assoc, at_new, at_first, at_old, el, er), (simp (add_assoc, at_new, at_first, at_old, el, er), (simp (add_assoc, at_new, at_first, at_old, el, er), (simp (add_assoc, at_new, at_first, at_old, el, er), tt))))))))))))))
+      let q : Cond = compare g (Column k) (Column w) in
+      let n : ℕ = length o in
+      let ys : List Node = cond_node q ∷ cond_node (unknown_of q) ∷ cond_node (not_of q) ∷ rows_node (select R (not_of q)) ∷ rows_node (select R (unknown_of q)) ∷ [] in
+      let len = length-append o ys in
+      behind o (Compare g (Column k) (Column w) ∷ UnknownL n ∷ Not n ∷ Select r (n + 2) ∷ Select r (n + 1) ∷ []) (quant_lines (pos 0) (pos 1) w l (n + 3) (n + 4) (n + 5)) ys (rows_node (flat_all g k w L R))
+      (refl, (simp at_first, (simp at_first, (simp (at_old, at_new, er), (simp (at_old, at_new, er), tt)))))
+      (subst (λ v. Step (o ++ ys) (grow (o ++ ys) (quant_lines (pos 0) (pos 1) w l (n + 3) (n + 4) v)) (rows_node (flat_all g k w L R))) len
+      (step_quant (pos 0) (pos 1) (o ++ ys) w l (n + 3) (n + 4) L (select R (not_of q)) (select R (unknown_of q)) (omega arith) (omega arith) (omega arith) (at_old o ys l hl ∙ el) (at_new o ys 3) (at_new o ys 4)))
 
 -- the context that a place stands for
 abbrev pub ctx : Place → List Node → Ctx
-ctx outermost o = top
-ctx (inside c i) o = under c (as_rows (at o i))
+ctx None o = top
+ctx (Some x) o = under x.columns (as_rows (at o x.domain))
 
 abbrev pub Ready : Place → List Node → Type 0
-Ready outermost o = Unit {0}
-Ready (inside c i) o = i < length o
+Ready None o = Unit {0}
+Ready (Some x) o = x.domain < length o
 
 pub breadth_is : (x : Place) (o : List Node) → breadth x ≡ cols (ctx x o)
-breadth_is outermost o = refl
-breadth_is (inside c i) o = refl
+breadth_is None o = refl
+breadth_is (Some x) o = refl
 
 pub ctx_kept : (x : Place) (o p : List Node) {y : Node} → Step o p y → Ready x o → ctx x p ≡ ctx x o
-ctx_kept outermost o p s h = refl
-ctx_kept (inside c i) o p s h = ap (λ v. under c (as_rows v)) (s.kept i h)
+ctx_kept None o p s h = refl
+ctx_kept (Some x) o p s h = ap (λ v. under x.columns (as_rows v)) (s.kept x.domain h)
 
 pub ready_kept : (x : Place) (o p : List Node) {y : Node} → Step o p y → Ready x o → Ready x p
-ready_kept outermost o p s h = tt
-ready_kept (inside c i) o p s h = omega (arith, s.grew)
+ready_kept None o p s h = tt
+ready_kept (Some x) o p s h = omega (arith, s.grew)
 
 step_spread : (x : Place) (o : List Node) (l : Line) (t : Tree) → ((p : List Node) → build p l ≡ rows_node t) → Ready x o
     → Step o (grow o (spread_lines x l (length o))) (rows_node (spread (ctx x o) t))
 unfolding build
-step_spread outermost o l t e h = step_is (e o) (one_line o l)
-step_spread (inside c i) o l t e h =
-    run_step o (l ∷ Match 0 i (length o) ∷ []) (rows_node t ∷ []) (rows_node (match 0 (as_rows (at o i)) t)) (e (o ++ []), (simp (at_old, at_first), tt))
+step_spread None o l t e h = step_is (e o) (one_line o l)
+step_spread (Some x) o l t e h =
+    run_step o (l ∷ Match 0 x.domain (length o) ∷ []) (rows_node t ∷ []) (rows_node (match 0 (as_rows (at o x.domain)) t)) (e (o ++ []), (simp (at_old, at_first), tt))
 
 pub cell_builds : (v : Cell) (p : List Node) (i : ℕ) (t : Tree) → at p i ≡ rows_node t → build p (cell_line v i) ≡ rows_node (with_cell v t)
 unfolding build
@@ -172,12 +211,12 @@ cell_builds (Number z) p i t e = rw e
 step_total : (f : Aggregate) (k : ℕ) (x : Place) (o : List Node) (a : ℕ) (t : Tree) → a < length o → at o a ≡ rows_node t → Ready x o
     → Step o (grow o (total_lines f k x a (length o))) (rows_node (totalled f k (ctx x o) t))
 unfolding build
-step_total f k outermost o a t h e r = step_is (rw e) (one_line o (Total f k a))
-step_total f k (inside c i) o a t h e r =
-    run_step o (total_lines f k (inside c i) a (length o))
-    (rows_node (group c f k t) ∷ rows_node (anti_match c (as_rows (at o i)) t) ∷ rows_node (with_cell (none_of f) (anti_match c (as_rows (at o i)) t)) ∷ [])
-    (rows_node (totalled f k (ctx (inside c i) o) t))
-    (simp (at_old, e), (simp (at_old, e), (cell_builds (none_of f) (o ++ (rows_node (group c f k t) ∷ rows_node (anti_match c (as_rows (at o i)) t) ∷ [])) (length o + 1) (anti_match c (as_rows (at o i)) t) (at_new o _ 1), (simp (at_new, at_first), tt))))
+step_total f k None o a t h e r = step_is (rw e) (one_line o (Total f k a))
+step_total f k (Some x) o a t h e r =
+    run_step o (total_lines f k (Some x) a (length o))
+    (rows_node (group x.columns f k t) ∷ rows_node (anti_match x.columns (as_rows (at o x.domain)) t) ∷ rows_node (with_cell (none_of f) (anti_match x.columns (as_rows (at o x.domain)) t)) ∷ [])
+    (rows_node (totalled f k (ctx (Some x) o) t))
+    (simp (at_old, e), (simp (at_old, e), (cell_builds (none_of f) (o ++ (rows_node (group x.columns f k t) ∷ rows_node (anti_match x.columns (as_rows (at o x.domain)) t) ∷ [])) (length o + 1) (anti_match x.columns (as_rows (at o x.domain)) t) (at_new o _ 1), (simp (at_new, at_first), tt))))
 
 module _ (ws : List ℕ) where
   -- a second operand, in the same context

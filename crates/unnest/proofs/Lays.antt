@@ -1,5 +1,5 @@
 -- The emitted lines are lines of a flat plan.
-use Rattle.std.proofs.Common.{◌≡◌, ℕ, ◌+◌, ◌-◌, ◌<◌, List, [], ◌∷◌, ◌++◌, length, ℤ, pos, sym, refl, ap, ◌∙◌, subst, arith}
+use Rattle.std.proofs.Common.{◌≡◌, ℕ, ◌+◌, ◌-◌, ◌<◌, List, [], ◌∷◌, ◌++◌, length, None, Some, ℤ, pos, sym, refl, ap, ◌∙◌, subst, arith}
 use Rattle.std.proofs.lemmas.List.{append_assoc, append-nil, length-append, length_push}
 use Rattle.cells.specs.declared.cell.Cell.{Cell}
 use Rattle.cells.specs.declared.cell.Cell.TheVariants.{Null, Number}
@@ -101,28 +101,28 @@ module _ (ws : List ℕ) where
 
   -- the domain's line stands and has rows
   abbrev Placed : Place → List Node → Type 0
-  Placed outermost o = Unit {0}
-  Placed (inside c i) o = HasRows o i
+  Placed None o = Unit {0}
+  Placed (Some x) o = HasRows o x.domain
 
   ready_of : (x : Place) (o : List Node) → Placed x o → Ready x o
-  ready_of outermost o h = tt
-  ready_of (inside c i) o h = h.0
+  ready_of None o h = tt
+  ready_of (Some x) o h = h.0
 
   placed_kept : (x : Place) (o p : List Node) {y : Node} → Step o p y → Placed x o → Placed x p
-  placed_kept outermost o p s h = tt
-  placed_kept (inside c i) o p s h = (omega (arith, s.grew, h.0), subst IsRows (sym (s.kept i h.0)) h.1)
+  placed_kept None o p s h = tt
+  placed_kept (Some x) o p s h = (omega (arith, s.grew, h.0), subst IsRows (sym (s.kept x.domain h.0)) h.1)
 
   lay_spread : (x : Place) (o : List Node) (l : Line) (t : Tree) → ((p : List Node) → Fed p (shape_of l)) → ((p : List Node) → build p l ≡ rows_node t) → Placed x o
       → Runnable ws (rows_node t) → Runnable ws (rows_node (spread (ctx x o) t)) → PlanFrom ws o (spread_lines x l (length o))
   unfolding build
-  lay_spread outermost o l t f e h r u = one o l (rows_node t) (f o) (e o) r
-  lay_spread (inside c i) o l t f e h r u =
-      straight o (l ∷ Match 0 i (length o) ∷ []) (rows_node t ∷ rows_node (match 0 (as_rows (at o i)) t) ∷ []) (
+  lay_spread None o l t f e h r u = one o l (rows_node t) (f o) (e o) r
+  lay_spread (Some x) o l t f e h r u =
+      straight o (l ∷ Match 0 x.domain (length o) ∷ []) (rows_node t ∷ rows_node (match 0 (as_rows (at o x.domain)) t) ∷ []) (
         f (o ++ []),
         e (o ++ []),
         r,
         (
-          (old_rows o (rows_node t ∷ []) i h, new_rows o (rows_node t ∷ []) (length o) 0 (omega arith) (omega arith) tt),
+          (old_rows o (rows_node t ∷ []) x.domain h, new_rows o (rows_node t ∷ []) (length o) 0 (omega arith) (omega arith) tt),
           (let k = h.0 in simp (at_old, at_first)),
           u,
           tt,
@@ -146,20 +146,21 @@ module _ (ws : List ℕ) where
   lay_total : (f : Aggregate) (k : ℕ) (x : Place) (o : List Node) (a : ℕ) (t : Tree) → a < length o → at o a ≡ rows_node t → Placed x o
       → Runnable ws (rows_node (totalled f k (ctx x o) t)) → PlanFrom ws o (total_lines f k x a (length o))
   unfolding build Sound Plain
-  lay_total f k outermost o a t h e pl r = one o (Total f k a) (rows_node (total f k t)) (rows_at o a t h e) (rw e) r
-  lay_total f k (inside c i) o a t h e pl r =
-      let D : Tree = as_rows (at o i) in
+  lay_total f k None o a t h e pl r = one o (Total f k a) (rows_node (total f k t)) (rows_at o a t h e) (rw e) r
+  lay_total f k (Some x) o a t h e pl r =
+      let c : ℕ = x.columns in
+      let D : Tree = as_rows (at o x.domain) in
       let G : Node = rows_node (group c f k t) in
       let X : Node = rows_node (anti_match c D t) in
       let N : Node = rows_node (with_cell (none_of f) (anti_match c D t)) in
       let ha : HasRows o a = rows_at o a t h e in
       let k' = pl.0 in
-      straight o (total_lines f k (inside c i) a (length o)) (G ∷ X ∷ N ∷ rows_node (union (group c f k t) (with_cell (none_of f) (anti_match c D t))) ∷ []) (
+      straight o (total_lines f k (Some x) a (length o)) (G ∷ X ∷ N ∷ rows_node (union (group c f k t) (with_cell (none_of f) (anti_match c D t))) ∷ []) (
         old_rows o [] a ha,
         simp (at_old, e),
         (r.0.1, r.1.0),
         (
-          (old_rows o (G ∷ []) i pl, old_rows o (G ∷ []) a ha),
+          (old_rows o (G ∷ []) x.domain pl, old_rows o (G ∷ []) a ha),
           simp (at_old, e),
           (cell_sound (none_of f) (anti_match c D t) r.0.2, cell_plain (none_of f) (anti_match c D t) r.1.1),
           (

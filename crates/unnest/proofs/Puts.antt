@@ -1,22 +1,13 @@
 -- Lines put behind lines, and lines put behind those.
-use Rattle.std.proofs.Common.{◌≡◌, ℕ, ◌+◌, ◌-◌, ◌<◌, List, [], ◌∷◌, ◌++◌, length, get_or, take, pos, IsErrAnd, Ok, Err, Result, sym, ap, ◌∙◌, subst, arith}
+use Rattle.std.proofs.Common.{◌≡◌, ℕ, ◌+◌, ◌-◌, List, [], ◌∷◌, ◌++◌, length, ℤ, pos, IsErrAnd, Ok, Err, Result, sym, ap, ◌∙◌, subst, add_assoc, arith}
 use Rattle.cells.specs.declared.sign.Sign.{Sign}
-use Rattle.lines.specs.declared.line.Side.TheVariants.{Column}
-use Rattle.std.proofs.lemmas.List.{append_assoc, length-append, take_more, take_all}
+use Rattle.lines.specs.declared.line.Side.TheVariants.{Column, Constant}
+use Rattle.std.proofs.lemmas.List.{append_assoc, length-append}
 use Rattle.lines.specs.declared.line.Line.{Line}
-use Rattle.lines.specs.declared.line.Line.TheVariants.{Unit as UnitL, Select, Compare, Not, Unknown as UnknownL}
+use Rattle.lines.specs.declared.line.Line.TheVariants.{Select, Extend, Pad, SemiMatch, AntiMatch, Union, Compare, Not, Unknown as UnknownL}
 use Rattle.stock.specs.declared.refusal.Refusal.{Refusal}
-use Rattle.unnest.specs.Emit.{chain, quant_lines, some_lines, all_lines}
+use Rattle.unnest.specs.Emit.{chain, tried_lines, some_lines, all_lines}
 use Rattle.unnest.specs.Rooms.{Emitted, TooLong, Puts}
-
--- one line more of a list that is put line by line
-pub one_more : (before now after lines : List Line) (i : ℕ) (l : Line) → i < length lines → get_or lines i UnitL ≡ l
-    → now ≡ before ++ take i lines → after ≡ now ++ (l ∷ []) → after ≡ before ++ take (i + 1) lines
-one_more before now after lines i l h e f g =
-    g ∙ ap (λ v. v ++ (l ∷ [])) f ∙ append_assoc before (take i lines) (l ∷ []) ∙ ap (λ v. before ++ (take i lines ++ (v ∷ []))) (sym e) ∙ ap (λ v. before ++ v) (sym (take_more lines i UnitL h))
-
-pub all_put : (before after lines : List Line) (i k : ℕ) → after ≡ before ++ take i lines → i ≡ length lines → k + 1 ≡ length after → Emitted before after lines k
-all_put before after lines i k f e n = record { lines = f ∙ ap (λ v. before ++ v) (take_all i lines (omega arith)); last = n }
 
 -- no room for the front of what was to be put, so none for all of it
 pub front_long : (before a b : List Line) (e : Refusal) → TooLong before a e → TooLong before (a ++ b) e
@@ -39,24 +30,78 @@ mid_length before mid a k m = ap length m.lines ∙ length-append before a
 pub last_is : (before mid a : List Line) (k : ℕ) → Emitted before mid a k → k ≡ length mid - 1
 last_is before mid a k m = omega (arith, m.last)
 
--- the conditions and the Selects of some and of all, then the rest
-pub some_put : (s : Sign) (k w l r : ℕ) (o o₁ o₂ : List Line) (n j : ℕ) (q : Result ℕ Refusal) → n ≡ length o
-    → Emitted o o₁ (Compare s (Column k) (Column w) ∷ UnknownL n ∷ Select r n ∷ Select r (n + 1) ∷ []) j
-    → Puts o₁ o₂ (quant_lines (pos 1) (pos 0) w l (n + 2) (n + 3) (length o₁)) q → Puts o o₂ (some_lines s k w l r (length o)) q
-some_put s k w l r o o₁ o₂ n j q e m p =
-    let d : length o₁ ≡ n + 4 = mid_length _ _ _ _ m ∙ ap (λ v. v + 4) (sym e) in
-    subst (λ v. Puts o o₂ (some_lines s k w l r v) q) e
-    (then_puts o o₁ o₂ (Compare s (Column k) (Column w) ∷ UnknownL n ∷ Select r n ∷ Select r (n + 1) ∷ []) (quant_lines (pos 1) (pos 0) w l (n + 2) (n + 3) (n + 4)) j q m
-    (subst (λ v. Puts o₁ o₂ (quant_lines (pos 1) (pos 0) w l (n + 2) (n + 3) v) q) d p))
+-- one line, then the rest
+then_put : {o o₁ : List Line} {l : Line} {k : ℕ} (o₂ rest : List Line) (r : Result ℕ Refusal) → Emitted o o₁ (l ∷ []) k → Puts o₁ o₂ rest r → Puts o o₂ (l ∷ rest) r
+then_put {o} {o₁} {l} {k} o₂ rest r m p = then_puts o o₁ o₂ (l ∷ []) rest k r m p
 
-pub all_put_lines : (s : Sign) (k w l r : ℕ) (o o₁ o₂ : List Line) (n j : ℕ) (q : Result ℕ Refusal) → n ≡ length o
-    → Emitted o o₁ (Compare s (Column k) (Column w) ∷ UnknownL n ∷ Not n ∷ Select r (n + 2) ∷ Select r (n + 1) ∷ []) j
-    → Puts o₁ o₂ (quant_lines (pos 0) (pos 1) w l (n + 3) (n + 4) (length o₁)) q → Puts o o₂ (all_lines s k w l r (length o)) q
-all_put_lines s k w l r o o₁ o₂ n j q e m p =
-    let d : length o₁ ≡ n + 5 = mid_length _ _ _ _ m ∙ ap (λ v. v + 5) (sym e) in
-    subst (λ v. Puts o o₂ (all_lines s k w l r v) q) e
-    (then_puts o o₁ o₂ (Compare s (Column k) (Column w) ∷ UnknownL n ∷ Not n ∷ Select r (n + 2) ∷ Select r (n + 1) ∷ []) (quant_lines (pos 0) (pos 1) w l (n + 3) (n + 4) (n + 5)) j q m
-    (subst (λ v. Puts o₁ o₂ (quant_lines (pos 0) (pos 1) w l (n + 3) (n + 4) v) q) d p))
+-- the number of one line, and how many lines then stand, where some stood behind the first n
+number_is : {o o₁ : List Line} {l : Line} {k : ℕ} (n i : ℕ) → Emitted o o₁ (l ∷ []) k → length o ≡ n + i → k ≡ n + i
+number_is {o} {o₁} {l} {k} n i m e = omega (arith, m.last, mid_length o o₁ (l ∷ []) k m)
+
+grown_to : {o o₁ : List Line} {l : Line} {k : ℕ} (n i : ℕ) → Emitted o o₁ (l ∷ []) k → length o ≡ n + i → length o₁ ≡ n + (i + 1)
+grown_to {o} {o₁} {l} {k} n i m e = omega (arith, mid_length o o₁ (l ∷ []) k m)
+
+-- the lines that some and all share, each by its number
+pub tried_put : (won lost y z : ℤ) (w l r p q : ℕ) (o o₁ o₂ o₃ o₄ o₅ o₆ o₇ o₈ o₉ o₁₀ o₁₁ : List Line) (a b c d e f g h i j : ℕ) (s : Result ℕ Refusal) → y ≡ won → z ≡ lost
+    → Emitted o o₁ (Select r p ∷ []) a → Emitted o₁ o₂ (Select r q ∷ []) b → Emitted o₂ o₃ (SemiMatch w l a ∷ []) c → Emitted o₃ o₄ (Extend c (Constant y) ∷ []) d
+    → Emitted o₄ o₅ (AntiMatch w l a ∷ []) e → Emitted o₅ o₆ (SemiMatch w e b ∷ []) f → Emitted o₆ o₇ (Pad 1 f ∷ []) g → Emitted o₇ o₈ (AntiMatch w e b ∷ []) h
+    → Emitted o₈ o₉ (Extend h (Constant z) ∷ []) i → Emitted o₉ o₁₀ (Union d g ∷ []) j → Puts o₁₀ o₁₁ (Union j i ∷ []) s
+    → Puts o o₁₁ (tried_lines won lost w l r p q (length o)) s
+tried_put won lost y z w l r p q o o₁ o₂ o₃ o₄ o₅ o₆ o₇ o₈ o₉ o₁₀ o₁₁ a b c d e f g h i j s u v m₁ m₂ m₃ m₄ m₅ m₆ m₇ m₈ m₉ m₁₀ t =
+    let n : ℕ = length o in
+    let u₀ : length o ≡ n + 0 = omega arith in
+    let u₁ : length o₁ ≡ n + 1 = grown_to n 0 m₁ u₀ in
+    let u₂ : length o₂ ≡ n + 2 = grown_to n 1 m₂ u₁ in
+    let u₃ : length o₃ ≡ n + 3 = grown_to n 2 m₃ u₂ in
+    let u₄ : length o₄ ≡ n + 4 = grown_to n 3 m₄ u₃ in
+    let u₅ : length o₅ ≡ n + 5 = grown_to n 4 m₅ u₄ in
+    let u₆ : length o₆ ≡ n + 6 = grown_to n 5 m₆ u₅ in
+    let u₇ : length o₇ ≡ n + 7 = grown_to n 6 m₇ u₆ in
+    let u₈ : length o₈ ≡ n + 8 = grown_to n 7 m₈ u₇ in
+    let u₉ : length o₉ ≡ n + 9 = grown_to n 8 m₉ u₈ in
+    let k₁ : a ≡ n = omega (arith, number_is n 0 m₁ u₀) in
+    let k₂ : b ≡ n + 1 = number_is n 1 m₂ u₁ in
+    let k₃ : c ≡ n + 2 = number_is n 2 m₃ u₂ in
+    let k₄ : d ≡ n + 3 = number_is n 3 m₄ u₃ in
+    let k₅ : e ≡ n + 4 = number_is n 4 m₅ u₄ in
+    let k₆ : f ≡ n + 5 = number_is n 5 m₆ u₅ in
+    let k₇ : g ≡ n + 6 = number_is n 6 m₇ u₆ in
+    let k₈ : h ≡ n + 7 = number_is n 7 m₈ u₇ in
+    let k₉ : i ≡ n + 8 = number_is n 8 m₉ u₈ in
+    let k₁₀ : j ≡ n + 9 = number_is n 9 m₁₀ u₉ in
+    let is : Select r p ∷ Select r q ∷ SemiMatch w l a ∷ Extend c (Constant y) ∷ AntiMatch w l a ∷ SemiMatch w e b ∷ Pad 1 f ∷ AntiMatch w e b ∷ Extend h (Constant z) ∷ Union d g ∷ Union j i ∷ []
+    ≡ tried_lines won lost w l r p q n = rw (u, v, k₁, k₂, k₃, k₄, k₅, k₆, k₇, k₈, k₉, k₁₀) (simp add_assoc) in
+    subst (λ x. Puts o o₁₁ x s) is
+    (then_put _ _ s m₁ (then_put _ _ s m₂ (then_put _ _ s m₃ (then_put _ _ s m₄ (then_put _ _ s m₅ (then_put _ _ s m₆ (then_put _ _ s m₇ (then_put _ _ s m₈ (then_put _ _ s m₉ (then_put _ _ s m₁₀ t))))))))))
+
+-- the conditions of some and of all, then what they share
+pub some_put : (g : Sign) (k w l r : ℕ) (o o₁ o₂ o₃ : List Line) (a b : ℕ) (s : Result ℕ Refusal)
+    → Emitted o o₁ (Compare g (Column k) (Column w) ∷ []) a → Emitted o₁ o₂ (UnknownL a ∷ []) b → Puts o₂ o₃ (tried_lines (pos 1) (pos 0) w l r a b (length o₂)) s
+    → Puts o o₃ (some_lines g k w l r (length o)) s
+some_put g k w l r o o₁ o₂ o₃ a b s m₁ m₂ z =
+    let n : ℕ = length o in
+    let u₀ : length o ≡ n + 0 = omega arith in
+    let u₁ : length o₁ ≡ n + 1 = grown_to n 0 m₁ u₀ in
+    let u₂ : length o₂ ≡ n + 2 = grown_to n 1 m₂ u₁ in
+    let k₁ : a ≡ n = omega (arith, number_is n 0 m₁ u₀) in
+    let k₂ : b ≡ n + 1 = number_is n 1 m₂ u₁ in
+    let is : Compare g (Column k) (Column w) ∷ UnknownL a ∷ tried_lines (pos 1) (pos 0) w l r a b (length o₂) ≡ some_lines g k w l r n = rw (u₂, k₁, k₂) (simp add_assoc) in
+    subst (λ v. Puts o o₃ v s) is (then_put _ _ s m₁ (then_put _ _ s m₂ z))
+
+pub all_put : (g : Sign) (k w l r : ℕ) (o o₁ o₂ o₃ o₄ : List Line) (a b c : ℕ) (s : Result ℕ Refusal)
+    → Emitted o o₁ (Compare g (Column k) (Column w) ∷ []) a → Emitted o₁ o₂ (UnknownL a ∷ []) b → Emitted o₂ o₃ (Not a ∷ []) c
+    → Puts o₃ o₄ (tried_lines (pos 0) (pos 1) w l r c b (length o₃)) s → Puts o o₄ (all_lines g k w l r (length o)) s
+all_put g k w l r o o₁ o₂ o₃ o₄ a b c s m₁ m₂ m₃ z =
+    let n : ℕ = length o in
+    let u₀ : length o ≡ n + 0 = omega arith in
+    let u₁ : length o₁ ≡ n + 1 = grown_to n 0 m₁ u₀ in
+    let u₂ : length o₂ ≡ n + 2 = grown_to n 1 m₂ u₁ in
+    let u₃ : length o₃ ≡ n + 3 = grown_to n 2 m₃ u₂ in
+    let k₁ : a ≡ n = omega (arith, number_is n 0 m₁ u₀) in
+    let k₂ : b ≡ n + 1 = number_is n 1 m₂ u₁ in
+    let k₃ : c ≡ n + 2 = number_is n 2 m₃ u₂ in
+    let is : Compare g (Column k) (Column w) ∷ UnknownL a ∷ Not a ∷ tried_lines (pos 0) (pos 1) w l r c b (length o₃) ≡ all_lines g k w l r n = rw (u₃, k₁, k₂, k₃) (simp add_assoc) in
+    subst (λ v. Puts o o₄ v s) is (then_put _ _ s m₁ (then_put _ _ s m₂ (then_put _ _ s m₃ z)))
 
 -- lines that follow once the number of the last line put is known
 pub chained : (o₀ o₁ o₂ a : List Line) (k : ℕ) (K : ℕ → ℕ → List Line) (r : Result ℕ Refusal) → Emitted o₀ o₁ a k → Puts o₁ o₂ (K k (length o₁)) r → Puts o₀ o₂ (chain (length o₀) a (λ i. K (i - 1) i)) r
@@ -74,15 +119,8 @@ pub second_long : (o₀ o₁ a : List Line) (b : ℕ → List Line) (K : ℕ →
     → TooLong o₀ (chain (length o₀) a (λ i. chain i (b i) (λ j. K (i - 1) (j - 1) j))) e
 second_long o₀ o₁ a b K k e m t = chained o₀ o₁ o₁ a k (λ h i. chain i (b i) (λ j. K h (j - 1) j)) (Err e) m (front_long o₁ (b (length o₁)) _ e t)
 
-pub one_put : (f : ℕ → Line) (o₀ o₁ o₂ a : List Line) (k : ℕ) (r : Result ℕ Refusal) → Emitted o₀ o₁ a k → Puts o₁ o₂ (f k ∷ []) r → Puts o₀ o₂ (chain (length o₀) a (λ i. f (i - 1) ∷ [])) r
-one_put f o₀ o₁ o₂ a k r m p = chained o₀ o₁ o₂ a k (λ h i. f h ∷ []) r m p
-
 -- two operands, then what follows
 pub twice : (o₀ o₁ o₂ o₃ a : List Line) (b : ℕ → List Line) (K : ℕ → ℕ → ℕ → List Line) (j k : ℕ) (r : Result ℕ Refusal) → Emitted o₀ o₁ a j → Emitted o₁ o₂ (b (length o₁)) k → Puts o₂ o₃ (K j k (length o₂)) r
     → Puts o₀ o₃ (chain (length o₀) a (λ i. chain i (b i) (λ h. K (i - 1) (h - 1) h))) r
 twice o₀ o₁ o₂ o₃ a b K j k r m n p =
     chained o₀ o₁ o₃ a j (λ h i. chain i (b i) (λ g. K h (g - 1) g)) r m (chained o₁ o₂ o₃ (b (length o₁)) k (λ h i. K j h i) r n p)
-
-pub two_put : (f : ℕ → ℕ → Line) (o₀ o₁ o₂ o₃ a : List Line) (b : ℕ → List Line) (j k : ℕ) (r : Result ℕ Refusal) → Emitted o₀ o₁ a j → Emitted o₁ o₂ (b (length o₁)) k → Puts o₂ o₃ (f j k ∷ []) r
-    → Puts o₀ o₃ (chain (length o₀) a (λ i. chain i (b i) (λ h. f (i - 1) (h - 1) ∷ []))) r
-two_put f o₀ o₁ o₂ o₃ a b j k r m n p = twice o₀ o₁ o₂ o₃ a b (λ g h i. f g h ∷ []) j k r m n p

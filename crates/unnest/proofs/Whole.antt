@@ -1,6 +1,5 @@
 -- The emitted lines of the last line are the flat lines of the query, and make a flat plan.
-use Rattle.std.proofs.Common.{◌≡◌, ℕ, ◌+◌, ◌-◌, ◌<◌, ◌≤◌, false, List, [], ◌∷◌, ◌++◌, length, get_or, take, set, Ok, Err, Result, sym, refl, ap, ◌∙◌, subst, ap₂, arith, MatchResult}
-use Rattle.std.proofs.lemmas.List.{take_more, take_more_set, take_all, length-take-le}
+use Rattle.std.proofs.Common.{◌≡◌, ℕ, ◌-◌, ◌<◌, false, List, [], ◌++◌, length, Ok, Err, Result, sym, refl, ap, ◌∙◌, subst, arith, MatchResult}
 use Rattle.lines.specs.declared.line.Line.{Line}
 use Rattle.lines.specs.Lines.{answer}
 use Rattle.lines.specs.Marks.{Sound}
@@ -19,13 +18,6 @@ use Rattle.unnest.specs.FlatPlans.{plan_lines, plan_widths, asked_lines, Unneste
 use Rattle.unnest.specs.Statement.{Agree}
 use Rattle.unnest.proofs.Indexed.{well_formed, same_width}
 use Rattle.unnest.proofs.Laws.{agreed}
-
--- a loop that copies widths
-pub widths_more : (ws all : List ℕ) (t v : ℕ) → take t all ≡ take t ws → v ≡ get_or ws t 0 → t < length all → t < length ws → take (t + 1) (set all t v) ≡ take (t + 1) ws
-widths_more ws all t v inv e h k = take_more_set all t v h ∙ ap₂ (λ a b. a ++ (b ∷ [])) inv e ∙ sym (take_more ws t 0 k)
-
-pub widths_all : (ws all : List ℕ) (t : ℕ) → take t all ≡ take t ws → t ≡ length ws → take (length ws) all ≡ ws
-widths_all ws all t inv e = ap (λ v. take v all) (sym e) ∙ inv ∙ take_all t ws (omega arith)
 
 module _ (ws : List ℕ) (ls : List Line) (n : ℕ) (e : n ≡ length ls) where
   pub at_top : Sound ws [] (answer ls) → InContext ws 0 (tree_at ls (n - 1))
@@ -57,19 +49,8 @@ unnested_so q p e f =
     record {
       lines = e;
       widths = f;
-      few = omega (arith, ap length e, length-take-le p.count p.lines (omega (arith, p.full, p.few)), p.few);
+      few = omega (arith, ap length e, p.few);
       no_apply = subst (λ v. (i : ℕ) → i < length v → is_apply (shape_of (line_at v i)) ≡ false) (sym e) (well_formed (widths_of q) (lines_of q) s).no_apply;
       agrees = subst (Agree (widths_of q) (lines_of q)) (sym e) (agreed (widths_of q) (lines_of q) s);
       wide = ap (λ v. width (widths_of q) (answer v)) e ∙ same_width (widths_of q) (lines_of q) s;
     }
-
--- the widths that a query carries, in another list
-pub least_so : (q : Query) (n : ℕ) (vs : List ℕ) → n ≡ length (widths_of q) → take n vs ≡ widths_of q → (t : ℕ) → t < n → 1 ≤ get_or (take n vs) t 0
-least_so q n vs e f t h =
-    subst (λ v. 1 ≤ get_or v t 0) (sym f) (q.least t (omega (arith, length-take-le q.stocked q.tables (omega (arith, q.stock, q.broad)))))
-
-pub most_so : (q : Query) (n : ℕ) (vs : List ℕ) → take n vs ≡ widths_of q → (t : ℕ) → get_or (take n vs) t 0 ≤ 8
-most_so q n vs f t = subst (λ v. get_or v t 0 ≤ 8) (sym f) (q.most t)
-
-pub few_so : (q : Query) (n : ℕ) → n ≡ length (widths_of q) → n ≤ 16
-few_so q n e = omega (arith, length-take-le q.stocked q.tables (omega (arith, q.stock, q.broad)), q.stock)

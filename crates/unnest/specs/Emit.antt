@@ -1,6 +1,5 @@
 -- Unnesting as numbered lines: operands first, left before right, then the lines of the kind itself.
-pub use Rattle.unnest.specs.declared.place.Place.{Place}
-pub use Rattle.unnest.specs.declared.place.Place.TheVariants.{Outermost as outermost, Inside as inside}
+use Rattle.unnest.specs.declared.context.Context.{Context}
 use Rattle.cells.specs.declared.cell.Cell.{Cell}
 use Rattle.cells.specs.declared.cell.Cell.TheVariants.{Null, Number}
 use Rattle.cells.specs.declared.sign.Sign.{Sign}
@@ -11,12 +10,24 @@ use Rattle.lines.specs.Trees.{Cond, compare, is_null, not_of, unknown_of, and_of
 use Rattle.lines.specs.Lines.{answer}
 use Rattle.lines.specs.declared.line.Line.{Line}
 use Rattle.lines.specs.declared.line.Line.TheVariants.{Table as TableL, Unit as UnitL, Select, Keep, Extend, ExtendTruth, Pad, Match, SemiMatch, AntiMatch, Union, Diff, Distinct, Group, Total, Compare, IsNull, Not, Unknown as UnknownL, And, Or}
-use Rattle.std.specs.Prelude.{ℕ, ◌+◌, ◌-◌, List, [], ◌∷◌, ◌++◌, length, ℤ, pos}
+use Rattle.std.specs.Prelude.{ℕ, ◌+◌, ◌-◌, List, [], ◌∷◌, ◌++◌, length, ℤ, pos, Option, None, Some}
+
+-- where a line stands
+abbrev pub Place : Type 0
+Place = Option Context
+
+-- in the empty context
+abbrev pub outermost : Place
+outermost = None
+
+-- in a context of c columns, whose domain is line i
+abbrev pub inside : ℕ → ℕ → Place
+inside c i = Some (record { columns = c; domain = i })
 
 -- the columns of a line's context
 abbrev pub breadth : Place → ℕ
-breadth outermost = 0
-breadth (inside c i) = c
+breadth None = 0
+breadth (Some x) = x.columns
 
 -- lines from number n on, then those that follow, which know the next free number
 abbrev pub chain : ℕ → List Line → (ℕ → List Line) → List Line
@@ -33,8 +44,8 @@ emit_condition (or_of p q) n = chain n (emit_condition p n) (λ i. chain i (emit
 
 -- a line that reads nothing, with each row of the domain
 abbrev pub spread_lines : Place → Line → ℕ → List Line
-spread_lines outermost l n = l ∷ []
-spread_lines (inside c i) l n = l ∷ Match 0 i n ∷ []
+spread_lines None l n = l ∷ []
+spread_lines (Some x) l n = l ∷ Match 0 x.domain n ∷ []
 
 -- one cell more: an Extend by a number, a Pad for NULL
 abbrev pub cell_line : Cell → ℕ → Line
@@ -43,8 +54,8 @@ cell_line (Number z) i = Extend i (Constant z)
 
 -- e is the operand's line
 abbrev pub total_lines : Aggregate → ℕ → Place → ℕ → ℕ → List Line
-total_lines f k outermost e n = Total f k e ∷ []
-total_lines f k (inside c i) e n = Group c f k e ∷ AntiMatch c i e ∷ cell_line (none_of f) (n + 1) ∷ Union n (n + 2) ∷ []
+total_lines f k None e n = Total f k e ∷ []
+total_lines f k (Some x) e n = Group x.columns f k e ∷ AntiMatch x.columns x.domain e ∷ cell_line (none_of f) (n + 1) ∷ Union n (n + 2) ∷ []
 
 -- l and r are the lines of the left and the right operand, w the left line's width, m the right operand's own width
 abbrev pub outer_lines : ℕ → ℕ → ℕ → ℕ → ℕ → List Line
@@ -55,6 +66,10 @@ abbrev pub quant_lines : ℤ → ℤ → ℕ → ℕ → ℕ → ℕ → ℕ →
 quant_lines won lost w l a b n =
     SemiMatch w l a ∷ Extend n (Constant won) ∷ AntiMatch w l a ∷ SemiMatch w (n + 2) b ∷ Pad 1 (n + 3) ∷ AntiMatch w (n + 2) b ∷ Extend (n + 5) (Constant lost)
     ∷ Union (n + 1) (n + 4) ∷ Union (n + 7) (n + 6) ∷ []
+
+-- the two Selects of r by the conditions p and q, then what they ask for
+abbrev pub tried_lines : ℤ → ℤ → ℕ → ℕ → ℕ → ℕ → ℕ → ℕ → List Line
+tried_lines won lost w l r p q n = Select r p ∷ Select r q ∷ quant_lines won lost w l n (n + 1) (n + 2)
 
 abbrev pub some_lines : Sign → ℕ → ℕ → ℕ → ℕ → ℕ → List Line
 some_lines s k w l r n =

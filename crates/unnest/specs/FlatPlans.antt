@@ -11,15 +11,15 @@ use Rattle.unnest.specs.declared.plan.FlatPlan.{FlatPlan}
 use Rattle.unnest.specs.Emit.{flat_lines}
 use Rattle.unnest.specs.Plans.{is_apply}
 use Rattle.unnest.specs.Statement.{Agree}
-use Rattle.std.specs.Prelude.{◌≡◌, ℕ, ◌<◌, ◌≤◌, false, List, length, take}
+use Rattle.std.specs.Prelude.{◌≡◌, ℕ, ◌<◌, ◌≤◌, false, List, length}
 
 -- its lines
 abbrev pub plan_lines : FlatPlan → List Line
-plan_lines p = take p.count p.lines
+plan_lines p = p.lines.items
 
 -- the widths of the tables that it was made for
 abbrev pub plan_widths : FlatPlan → List ℕ
-plan_widths p = take p.tables p.widths
+plan_widths p = p.widths.items
 
 -- the lines that the query's unnesting asks for
 abbrev pub asked_lines : Query → List Line

@@ -70,6 +70,36 @@ raised (UnknownL a) c i j = UnknownL a
 raised (And a b) c i j = And a b
 raised (Or a b) c i j = Or a b
 
+-- the condition over the flat lines i and j of its parts; a line with rows is read as an IsNull, which no accepted query asks for
+abbrev pub over : Line → ℕ → ℕ → Line
+over (TableL t) i j = IsNull 0
+over UnitL i j = IsNull 0
+over (Select a q) i j = IsNull 0
+over (Keep p z a) i j = IsNull 0
+over (Extend a v) i j = IsNull 0
+over (ExtendTruth a q) i j = IsNull 0
+over (Pad z a) i j = IsNull 0
+over (Match p a b) i j = IsNull 0
+over (SemiMatch p a b) i j = IsNull 0
+over (AntiMatch p a b) i j = IsNull 0
+over (Union a b) i j = IsNull 0
+over (Diff a b) i j = IsNull 0
+over (Distinct a) i j = IsNull 0
+over (Group p f k a) i j = IsNull 0
+over (Total f k a) i j = IsNull 0
+over (ApplyCross a b) i j = IsNull 0
+over (ApplyOuter a b) i j = IsNull 0
+over (ApplySemi a b) i j = IsNull 0
+over (ApplyAnti a b) i j = IsNull 0
+over (ApplySome s k a b) i j = IsNull 0
+over (ApplyAll s k a b) i j = IsNull 0
+over (Compare s a b) i j = Compare s a b
+over (IsNull k) i j = IsNull k
+over (Not a) i j = Not i
+over (UnknownL a) i j = UnknownL i
+over (And a b) i j = And i j
+over (Or a b) i j = Or i j
+
 -- the lines from number n on that a line other than an Apply adds in its place, over the flat lines i and j of its operands;
 -- a condition has no rows and is read as Unit where rows are asked for, which no accepted query does
 abbrev pub own_lines : Line → Place → ℕ → ℕ → ℕ → List Line
@@ -148,6 +178,16 @@ lines_by ws o l x n (Tested a q) = chain n (emit ws (rows_of o a) x n) (λ i. ch
 lines_by ws o l x n (Inner a b) = apply_lines (wide_of ws o a) x n (emit ws (rows_of o a) x) (emit ws (rows_of o b)) (λ w i j m. apply_own l w (wide_of ws o b) i j m)
 lines_by ws o l x n (Part p) = own_lines l x 0 0 n
 lines_by ws o l x n (Parts p q) = own_lines l x 0 0 n
+
+-- the flat lines of a condition, its parts' first
+abbrev pub condition_by : List Node → Line → ℕ → Shape → List Line
+condition_by o l n Leaf = over l 0 0 ∷ []
+condition_by o l n (One a) = over l 0 0 ∷ []
+condition_by o l n (Two a b) = over l 0 0 ∷ []
+condition_by o l n (Tested a q) = over l 0 0 ∷ []
+condition_by o l n (Inner a b) = over l 0 0 ∷ []
+condition_by o l n (Part p) = chain n (emit_condition (as_cond (at o p)) n) (λ i. over l (i - 1) 0 ∷ [])
+condition_by o l n (Parts p q) = chain n (emit_condition (as_cond (at o p)) n) (λ i. chain i (emit_condition (as_cond (at o q)) i) (λ j. over l (i - 1) (j - 1) ∷ []))
 
 -- a tree that is sound in some context of c columns
 pub record InContext (ws : List ℕ) (c : ℕ) (t : Tree) : Type 0 where

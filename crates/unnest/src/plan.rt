@@ -1,21 +1,17 @@
 // A flat plan.
-ghost use Rattle.std.specs.Prelude.{◌≡◌, ℕ, ◌<◌, ◌≤◌, length, take, slice_index};
+ghost use Rattle.std.specs.Prelude.{◌≤◌, length};
+ghost use Rattle.query.specs.Sizes.{Sized};
 ghost use Rattle.unnest.specs.Plans.{WellFormed};
 
+use arrayvec::ArrayVec;
 use lines::line::Line;
 
 // Lines that an evaluator runs in their order with no check, and the widths of the tables that they were made for.
 #[derive(Drop)]
 pub struct FlatPlan {
-    pub(crate) lines: [Line; 512],
-    pub(crate) count: usize,
-    pub(crate) widths: [usize; 16],
-    pub(crate) tables: usize,
-    ghost full: { length lines ≡ 512 },
-    ghost few: { count ≤ 512 },
-    ghost broad: { length widths ≡ 16 },
-    ghost stock: { tables ≤ 16 },
-    ghost least: { (t : ℕ) → t < tables → 1 ≤ slice_index (take tables widths) t },
-    ghost most: { (t : ℕ) → slice_index (take tables widths) t ≤ 8 },
-    ghost formed: { ∥ WellFormed (take tables widths) (take count lines) ∥₁ },
+    pub(crate) lines: ArrayVec<Line, 512>,
+    pub(crate) widths: ArrayVec<usize, 16>,
+    ghost few: { length lines.items ≤ 512 },
+    ghost sized: { Sized widths.items },
+    ghost formed: { ∥ WellFormed widths.items lines.items ∥₁ },
 }

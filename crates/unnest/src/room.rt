@@ -1,13 +1,12 @@
 // Room for the lines of a flat plan.
-ghost use Rattle.std.specs.Prelude.{◌≡◌, ◌≤◌, length};
+ghost use Rattle.std.specs.Prelude.{◌≤◌, length};
 
+use arrayvec::ArrayVec;
 use lines::line::Line;
 
-// The first lines stand, the others are unused.
+// The lines that stand. A contract sees only the items of an ArrayVec, so that `few` says its capacity.
 #[derive(Drop)]
 pub(crate) struct Room {
-    pub(crate) lines: [Line; 512],
-    pub(crate) count: usize,
-    ghost full: { length lines ≡ 512 },
-    ghost few: { count ≤ 512 },
+    pub(crate) lines: ArrayVec<Line, 512>,
+    ghost few: { length lines.items ≤ 512 },
 }

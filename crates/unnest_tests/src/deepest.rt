@@ -1,35 +1,34 @@
 // 32 lines nested as deep as they go: 15 Applies, each inside the one before.
 use crate::outcomes::unnests;
 use lines::line::Line;
+use std::array;
 use std::test::Fail;
 
 #[test]
 fn fifteen_contexts(rt: HostRuntime) -> Result<(), Fail> {
-    let mut query = [Line::Unit; 32];
-    for k in 0..15 {
-        query[16 + k] = Line::ApplyCross {
-            left: 14 - k,
-            right: 15 + k,
-        };
-    }
-    query[31] = Line::Distinct { rows: 30 };
-    let mut flat = [Line::Unit; 62];
-    flat[1] = Line::Distinct { rows: 0 };
-    for d in 1..16 {
-        flat[3 * d] = Line::Match {
+    let query = array::from_fn::<Line, 32, _>(|i| match i {
+        0..=15 => Line::Unit,
+        16..=30 => Line::ApplyCross {
+            left: 30 - i,
+            right: i - 1,
+        },
+        _ => Line::Distinct { rows: 30 },
+    });
+    let flat = array::from_fn::<Line, 62, _>(|i| match (i, i % 3) {
+        (0, _) => Line::Unit,
+        (46..=60, _) => Line::Match {
+            shared: 61 - i,
+            left: 3 * (60 - i),
+            right: i - 1,
+        },
+        (61, _) => Line::Distinct { rows: 60 },
+        (_, 0) => Line::Match {
             shared: 0,
-            left: 3 * d - 2,
-            right: 3 * d - 1,
-        };
-        flat[3 * d + 1] = Line::Distinct { rows: 3 * d };
-    }
-    for k in 0..15 {
-        flat[46 + k] = Line::Match {
-            shared: 15 - k,
-            left: 3 * (14 - k),
-            right: 45 + k,
-        };
-    }
-    flat[61] = Line::Distinct { rows: 60 };
+            left: i - 2,
+            right: i - 1,
+        },
+        (_, 1) => Line::Distinct { rows: i - 1 },
+        _ => Line::Unit,
+    });
     unnests(&rt, &query, &flat)
 }

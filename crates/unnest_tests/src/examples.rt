@@ -1,6 +1,7 @@
 // The worked examples of kits and shipments.
 use crate::outcomes::unnests;
 use cells::sign::Sign;
+use dealer::REORDER;
 use lines::line::{Aggregate, Line, Side};
 use std::test::Fail;
 
@@ -17,31 +18,6 @@ fn kits_by_their_count(rt: HostRuntime) -> Result<(), Fail> {
         left: Side::Column(1),
         right: Side::Column(2),
     };
-    let query = [
-        Line::Table { table: 0 },
-        Line::Table { table: 1 },
-        shipped,
-        Line::Select {
-            rows: 1,
-            condition: 2,
-        },
-        Line::Total {
-            aggregate: Aggregate::Rows,
-            column: 0,
-            rows: 3,
-        },
-        Line::ApplyCross { left: 0, right: 4 },
-        counted,
-        Line::Select {
-            rows: 5,
-            condition: 6,
-        },
-        Line::Keep {
-            first: 2,
-            last: 0,
-            rows: 7,
-        },
-    ];
     let flat = [
         Line::Table { table: 0 },
         Line::Distinct { rows: 0 },
@@ -88,7 +64,7 @@ fn kits_by_their_count(rt: HostRuntime) -> Result<(), Fail> {
             rows: 12,
         },
     ];
-    unnests(&rt, &query, &flat)
+    unnests(&rt, &REORDER, &flat)
 }
 
 // Kits with their shipments, and NULLs for those that have none.

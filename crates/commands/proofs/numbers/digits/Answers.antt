@@ -1,19 +1,11 @@
-use Rattle.std.proofs.Common.{◌+◌, drop, sym, ◌∙◌, arith}
-use Rattle.commands.proofs.Digits.{read_on, read_out, stuck}
+use Rattle.std.proofs.Common.{rules, Some, sym, ap, ◌∙◌, arith}
+use Rattle.std.proofs.lemmas.Bool.{eqb-false}
+use Rattle.commands.specs.Numbers.{more_digits}
+use Rattle.commands.proofs.Digits.{read_all, digits_of-some}
 use Rattle.commands.proofs.numbers.digits.Goals as goal
 
-pub loop-b-preserved : goal.loop-b-preserved
-loop-b-preserved c =
-    let read = read_on c.args.word.now c.loop-b.b-index c.loop-b.n (omega arith) in
-    let is = c.in_ok-n.was in
-    cc
-
-pub returns-in_err-n : goal.returns-in_err-n
-returns-in_err-n c =
-    let read = read_on c.args.word.now c.loop-b.b-index c.loop-b.n (omega arith) in
-    let is = c.in_err-n.was in
-    let none = stuck (drop (c.loop-b.b-index + 1) c.args.word.now) in
-    cc
-
 pub returns : goal.returns
-returns c = sym (c.loop-b.invariant ∙ read_out c.args.word.now c.loop-b.b-index c.loop-b.n (omega arith))
+returns c =
+    let some = eqb-false _ 0 (sym c.if-is_empty.ensures) in
+    read_all c.iter.result _ _ 0 _ c.try_fold.ensures.ran (λ f g n m x turn. search rules) (λ m e. e) (λ g m x broke. search rules)
+    ∙ (ap (λ ys. more_digits ys (Some 0)) c.iter.ensures.rest ∙ digits_of-some c.args.word.now (omega arith))

@@ -1,14 +1,14 @@
-use Rattle.std.proofs.Common.{sym, ap, ◌∙◌}
-use Rattle.std.proofs.lemmas.List.{drop_all}
-use Rattle.movements.specs.Moves.{fault_from}
-use Rattle.movements.proofs.Rowed.{fault_more, fault_here, fault_is}
+use Rattle.std.proofs.Common.{not, sym, ◌∙◌, rules, tests}
+use Rattle.std.proofs.lemmas.Iterator.{YieldsList-from_slice}
+use Rattle.std.proofs.lemmas.Iterator.Search.{position_from_yields_List}
+use Rattle.std.proofs.lemmas.Iterator.Adapters.{position_from-zero}
+use Rattle.cells.specs.Cells.{stored}
+use Rattle.movements.proofs.Rowed.{fault_by, fault_is}
 use Rattle.movements.proofs.rows.fault.Goals as goal
 
-pub loop-i-preserved : goal.loop-i-preserved
-loop-i-preserved c = c.loop-i.invariant ∙ fault_more c.args.row.now c.loop-i.i c.loop-i-test.true (sym c.if-not-is_stored.ensures.value)
-
-pub returns-then-not-is_stored : goal.returns-then-not-is_stored
-returns-then-not-is_stored c = sym (fault_is c.args.width c.args.row.now c.if-row-width.false ∙ c.loop-i.invariant ∙ fault_here c.args.row.now c.loop-i.i c.loop-i-test.true (sym c.if-not-is_stored.ensures.value))
-
 pub returns : goal.returns
-returns c = sym (fault_is c.args.width c.args.row.now c.if-row-width.false ∙ c.loop-i.invariant ∙ ap (fault_from c.loop-i.i) (drop_all c.loop-i.i c.args.row.now c.loop-i-test.false))
+returns c =
+    let row = c.args.row.now in
+    position_from_yields_List (λ x. not (stored x)) _ _ c.position.result c.position.ensures.ran (YieldsList-from_slice row cc) (λ x b q k. search (rules, tests))
+    ∙ position_from-zero (λ x. not (stored x)) row
+    ∙ sym (fault_is c.args.width row c.if-row-width.false ∙ fault_by 0 row)

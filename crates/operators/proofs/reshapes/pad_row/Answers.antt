@@ -1,5 +1,7 @@
-use Rattle.operators.proofs.Stack.{put_join}
+use Rattle.std.proofs.Common.{◌+◌}
+use Rattle.operators.proofs.Stack.{put_join, laid_one}
 use Rattle.operators.proofs.reshapes.pad_row.Goals as goal
 
 pub returns : goal.returns
-returns c = put_join c.args.cells.now c.copy.new.cells c.put_nulls.new.cells c.args.to c.args.w c.args.nulls _ _ c.copy.ensures c.put_nulls.ensures
+returns c = laid_one c.args.cells.now c.put_nulls.new.cells c.args.to (c.args.front.width + c.args.nulls) _
+    (put_join c.args.cells.now c.copy.new.cells c.put_nulls.new.cells c.args.to c.args.front.width c.args.nulls _ _ (rw c.end.ensures at c.copy.ensures) c.put_nulls.ensures)

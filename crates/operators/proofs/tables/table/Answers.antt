@@ -1,8 +1,7 @@
-use Rattle.std.proofs.Common.{◌≡◌, ℕ, ◌+◌, ◌*◌, [], get_or, subst, ap₂, arith}
+use Rattle.std.proofs.Common.{◌≡◌, ◌+◌, ◌*◌, ◌<◌, [], get_or, sym, ◌∙◌, ap₂, arith}
 use Rattle.stock.specs.Tables.{rows_at, width_of, rows_of}
-use Rattle.operators.specs.Laid.{Put}
 use Rattle.operators.proofs.Stack.{inside, laid_none}
-use Rattle.operators.proofs.Tabling.{few_cells, table_turn, table_done}
+use Rattle.operators.proofs.Tabling.{few_cells, row_long, part_put, table_turn}
 use Rattle.operators.proofs.tables.table.Goals as goal
 
 pub overflow_mul-rows : goal.overflow_mul-rows
@@ -14,23 +13,13 @@ overflow_mul-rows g c =
 pub loop-place-init : goal.loop-place-init
 loop-place-init g c = laid_none c.args.cells.now c.args.out _ c.requires.room.room
 
-pub table_row-requires : goal.table_row-requires
-table_row-requires g c =
-    let b = inside c.loop-place.place c.row_count-rows.result c.width-width.result c.loop-place-test.true in
-    record {
-      room = omega (arith, b, c.width-width.ensures, c.if-cells-out.false, c.requires.room.room, c.loop-place.auto.cells);
-      shown = omega (arith, c.loop-place-test.true, c.row_count-rows.ensures);
-    }
-
 pub loop-place-preserved : goal.loop-place-preserved
 loop-place-preserved g c =
     let ts = g.S.Stock.tables c.args.stock.now in
     let w = width_of ts c.args.table in
     let row = get_or (rows_at ts c.args.table) c.loop-place.place [] in
-    let P : ℕ → Type 0 = λ v. Put c.loop-place.cells c.table_row.new.cells (c.args.out + c.loop-place.place * v) w row in
-    table_turn (rows_at ts c.args.table) c.args.cells.now c.loop-place.cells c.table_row.new.cells c.args.out c.loop-place.place w (omega (arith, c.loop-place-test.true, c.row_count-rows.ensures)) c.loop-place.invariant (subst P c.width-width.ensures c.table_row.ensures)
-
-pub returns : goal.returns
-returns g c =
-    let ts = g.S.Stock.tables c.args.stock.now in
-    table_done (rows_at ts c.args.table) c.args.cells.now c.loop-place.cells c.args.out c.loop-place.place c.row_count-rows.result (width_of ts c.args.table) c.row_count-rows.ensures c.loop-place-test.false c.loop-place.auto.place-end c.loop-place.invariant
+    let lt : c.loop-place.place < rows_of ts c.args.table = omega (arith, c.loop-place-test.true, c.row_count-rows.ensures) in
+    let b = inside c.loop-place.place c.row_count-rows.result c.width-width.result c.loop-place-test.true in
+    table_turn (rows_at ts c.args.table) c.args.cells.now c.loop-place.cells _ c.args.out c.loop-place.place w lt c.loop-place.invariant
+    (rw (← c.width-width.ensures) (part_put c.loop-place.cells c.table_row.new.row row (c.args.out + c.loop-place.place * c.width-width.result) c.width-width.result _ c.table_row.ensures (omega arith)
+    (row_long ts c.args.table c.loop-place.place (g.S.Stock.lawful c.args.stock.now) lt ∙ sym c.width-width.ensures) (omega (arith, b, c.in_ok-fits.ensures, c.requires.room.room, c.loop-place.auto.cells))))

@@ -1,36 +1,29 @@
-use Rattle.std.proofs.Common.{◌<◌, [], get_or, take, sym, ap, ◌∙◌, arith}
-use Rattle.movements.specs.Moves.{added_rows}
-use Rattle.stock.specs.Tables.{width_of}
-use Rattle.cells.specs.declared.cell.Cell.TheVariants.{Null}
-use Rattle.movements.specs.Shown.{items_of}
-use Rattle.movements.specs.Moving.{nth_added, added_rows_short, length_added_rows}
+use Rattle.std.proofs.Common.{[], get_or, sym, eqb, rules, tests, arith}
 use Rattle.stock.specs.Tabled.{small_width}
-use Rattle.std.proofs.lemmas.List.{get_or-take, get_or_past}
+use Rattle.stock.specs.Tables.{width_of}
+use Rattle.std.proofs.lemmas.Iterator.{YieldsList-from_slice}
+use Rattle.std.proofs.lemmas.Iterator.Consumers.{nth_from_yields_List, YieldsList-from_filter}
+use Rattle.std.proofs.lemmas.List.{get_or_past}
+use Rattle.cells.specs.declared.cell.Cell.TheVariants.{Null}
+use Rattle.movements.specs.Moves.{added_rows}
+use Rattle.movements.specs.Moving.{added_rows_short}
+use Rattle.movements.proofs.Walked.{rows_by, cell_of}
 use Rattle.movements.proofs.movements.Movements.added_cell.Goals as goal
 
 pub returns-then-column-width : goal.returns-then-column-width
-returns-then-column-width g c = sym (get_or_past (get_or (added_rows c.args.table (width_of (g.S.Stock.tables c.args.self.now.below) c.args.table) (items_of c.args.self.now.added)) c.args.k []) c.args.column Null (let s = added_rows_short c.args.table (width_of (g.S.Stock.tables c.args.self.now.below) c.args.table) (items_of c.args.self.now.added) c.args.k in omega arith))
+returns-then-column-width g c =
+    let s = c.args.self.now in
+    let w = width_of (g.S.Stock.tables s.below) c.args.table in
+    let short = added_rows_short c.args.table w s.added.items c.args.k in
+    sym (get_or_past (get_or (added_rows c.args.table w s.added.items) c.args.k []) c.args.column Null (omega arith))
 
-pub offset_bounds-m-column : goal.offset_bounds-m-column
-offset_bounds-m-column g c = let s = small_width (g.S.Stock.tables c.args.self.now.below) c.args.table (g.S.Stock.lawful c.args.self.now.below) in omega arith
+pub map_or-requires : goal.map_or-requires
+map_or-requires g c = let w = small_width (g.S.Stock.tables c.args.self.now.below) c.args.table (g.S.Stock.lawful c.args.self.now.below) in search rules
 
-pub bounds-m-column : goal.bounds-m-column
-bounds-m-column g c = let s = small_width (g.S.Stock.tables c.args.self.now.below) c.args.table (g.S.Stock.lawful c.args.self.now.below) in omega arith
-
-pub returns-in-None : goal.returns-in-None
-returns-in-None g c =
-    let ms = take c.args.self.now.added.count c.args.self.now.added.items in
+pub returns : goal.returns
+returns g c =
+    let ms = c.args.self.now.added.items in
     let t = c.args.table in
     let w = width_of (g.S.Stock.tables c.args.self.now.below) t in
-    let l = length_added_rows t w ms in
-    let n = c.in-None.ensures in
-    sym (ap (λ r. get_or r c.args.column Null) (get_or_past (added_rows t w ms) c.args.k [] (omega arith)))
-
-pub returns-in-Some : goal.returns-in-Some
-returns-in-Some g c =
-    let ms = take c.args.self.now.added.count c.args.self.now.added.items in
-    let t = c.args.table in
-    let w = width_of (g.S.Stock.tables c.args.self.now.below) t in
-    let m = c.at-m.result in
-    let h : c.args.column < w = omega arith in
-    sym (ap (λ r. get_or r c.args.column Null) (nth_added t w ms c.args.k c.in-Some.i m c.in-Some.ensures) ∙ get_or-take w (get_or ms c.in-Some.i m).row c.args.column Null h ∙ ap (λ x. get_or x.row c.args.column Null) (sym c.at-m.ensures))
+    let found = nth_from_yields_List c.nth.result c.nth.new.self c.args.k c.nth.ensures.ran (YieldsList-from_filter _ (λ m. eqb m.table t) (YieldsList-from_slice ms cc) c.filter-own.ensures.closure (λ x r q k. search (rules, tests))) in
+    cell_of c.nth.result c.map_or.result _ _ w c.args.column found (search rules) (rows_by t w ms c.args.k) (omega arith)

@@ -1,17 +1,14 @@
-use Rattle.std.proofs.Common.{◌≡◌, length, take, ap, ◌∙◌, arith}
-use Rattle.std.proofs.lemmas.List.{length-take-le}
-use Rattle.std.proofs.lemmas.Bool.Decides.{nat_tests}
-use Rattle.movements.specs.Moves.{added_count}
-use Rattle.movements.specs.Moving.{added_count_more, take_whole}
+use Rattle.std.proofs.Common.{◌≤◌, length, eqb, sym, ◌∙◌, rules, tests, arith}
+use Rattle.std.proofs.lemmas.Iterator.{YieldsList-from_slice}
+use Rattle.std.proofs.lemmas.Iterator.Consumers.{count_from_yields_List, YieldsList-from_filter}
+use Rattle.std.proofs.lemmas.List.Sums.{length-filter, count_by-le-length}
+use Rattle.movements.proofs.Walked.{added_by}
 use Rattle.movements.proofs.movements.Movements.additions.Goals as goal
-use Rattle.movements.proofs.movements.Movements.additions.Goals.{then-at-table, else-at-table}
-
-pub loop-i-preserved : goal.loop-i-preserved
-loop-i-preserved g c =
-    let ms = take c.args.self.now.added.count c.args.self.now.added.items in
-    let n : length ms ≡ c.args.self.now.added.count = length-take-le _ _ (omega arith) in
-    let more = added_count_more c.args.table ms c.loop-i.i c.at.result (omega arith) c.at.ensures in
-    elim c.if-at-table.branch [ then-at-table w ↦ (grind (arith, nat_tests), omega arith) | else-at-table w ↦ (grind (arith, nat_tests), omega arith) ]
 
 pub returns : goal.returns
-returns g c = c.loop-i.invariant.0 ∙ ap (added_count c.args.table) (take_whole c.loop-i.i c.args.self.now.added.count c.args.self.now.added.items (omega arith) (omega arith))
+returns g c =
+    let ms = c.args.self.now.added.items in
+    let t = c.args.table in
+    let counted = count_from_yields_List c.filter.result c.count.result c.count.ensures.ran (YieldsList-from_filter _ (λ m. eqb m.table t) (YieldsList-from_slice ms cc) c.filter.ensures.closure (λ x r q k. search (rules, tests))) ∙ length-filter (λ m. eqb m.table t) ms in
+    let held : length ms ≤ 64 = rw c.deref.ensures.0 at c.deref.ensures.1 in
+    record { value = counted ∙ sym (added_by t ms); few = omega (arith, count_by-le-length (λ m. eqb m.table t) ms) }

@@ -1,17 +1,9 @@
-use Rattle.std.proofs.Common.{refl, rules}
+use Rattle.std.proofs.Common.{rules}
 use Rattle.movements.proofs.Empty.{shows_below, uncut_below}
 use Rattle.movements.proofs.movements.Movements.clear.Goals as goal
 
-pub returns : goal.returns
-returns g c =
-    let ts = g.S.Stock.tables c.args.self.now.below in
-    let good = g.S.Stock.lawful c.args.self.now.below in
-    let a = c.clear.new.self in
-    let h = c.clear-2.new.self in
-    record {
-      same = refl;
-      adds = search rules;
-      hides = search rules;
-      shows = shows_below ts a h c.clear.ensures c.clear-2.ensures good;
-      uncut = uncut_below ts a h c.clear.ensures c.clear-2.ensures good;
-    }
+pub returns-clause-shows : goal.returns-clause-shows
+returns-clause-shows g c = let b = c.args.self.now.below in shows_below (g.S.Stock.tables b) _ _ (search rules) (search rules) (g.S.Stock.lawful b)
+
+pub returns-clause-uncut : goal.returns-clause-uncut
+returns-clause-uncut g c = let b = c.args.self.now.below in uncut_below (g.S.Stock.tables b) _ _ c.clear.ensures c.clear-2.ensures (g.S.Stock.lawful b)

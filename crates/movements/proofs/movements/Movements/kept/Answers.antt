@@ -1,19 +1,15 @@
-use Rattle.std.proofs.Common.{◌≡◌, length, take, sym, ap, ◌∙◌, arith}
-use Rattle.std.proofs.lemmas.List.{length-take-le}
+use Rattle.std.proofs.Common.{sym, ap, ◌∙◌, fold, rules, tests}
+use Rattle.std.proofs.lemmas.Iterator.{YieldsList-from_slice}
+use Rattle.std.proofs.lemmas.Iterator.Consumers.{fold_from_yields_List}
 use Rattle.stock.specs.Tables.{rows_at}
-use Rattle.movements.specs.Moves.{remaining, fewer}
-use Rattle.movements.specs.Moving.{remaining_more, length_take_out, take_whole}
+use Rattle.movements.specs.Moves.{fewer}
+use Rattle.movements.proofs.Walked.{kept_by}
 use Rattle.movements.proofs.movements.Movements.kept.Goals as goal
 
-pub loop-i-preserved : goal.loop-i-preserved
-loop-i-preserved g c =
-    let t = c.args.table in
-    let i = c.loop-i.i in
-    let h = c.at.result in
-    let hs = take c.args.self.now.hidden.count c.args.self.now.hidden.items in
-    let rs = rows_at (g.S.Stock.tables c.args.self.now.below) t in
-    let n : length hs ≡ c.args.self.now.hidden.count = length-take-le _ _ (omega arith) in
-    c.shrink-n.ensures ∙ ap (fewer t h) c.loop-i.invariant ∙ sym (length_take_out t h (remaining t (take i hs) rs)) ∙ ap length (sym (remaining_more t hs i h rs (omega arith) c.at.ensures))
-
 pub returns : goal.returns
-returns g c = c.loop-i.invariant ∙ ap (λ x. length (remaining c.args.table x (rows_at (g.S.Stock.tables c.args.self.now.below) c.args.table))) (take_whole c.loop-i.i c.args.self.now.hidden.count c.args.self.now.hidden.items (omega arith) (omega arith))
+returns g c =
+    let s = c.args.self.now in
+    let t = c.args.table in
+    fold_from_yields_List _ (λ n h. fewer t h n) c.row_count.result c.fold.result c.fold.ensures.ran (YieldsList-from_slice s.hidden.items cc) (λ a x b q k. search (rules, tests))
+    ∙ ap (λ n. fold (λ m h. fewer t h m) n s.hidden.items) c.row_count.ensures
+    ∙ sym (kept_by t s.hidden.items (rows_at (g.S.Stock.tables s.below) t))

@@ -1,17 +1,6 @@
-use Rattle.std.proofs.Common.{refl}
-use Rattle.movements.proofs.Empty.{shows_below, uncut_below}
+use Rattle.std.proofs.Common.{rules}
+use Rattle.movements.proofs.Empty.{shows_below}
 use Rattle.movements.proofs.movements.Movements.over.Goals as goal
 
-pub returns : goal.returns
-returns g c =
-    let ts = g.S.Stock.tables c.args.below in
-    let good = g.S.Stock.lawful c.args.below in
-    let a = c.none.result in
-    let h = c.none-2.result in
-    record {
-      same = refl;
-      adds = c.none.ensures;
-      hides = c.none-2.ensures;
-      shows = shows_below ts a h c.none.ensures c.none-2.ensures good;
-      uncut = uncut_below ts a h c.none.ensures c.none-2.ensures good;
-    }
+pub returns-clause-shows : goal.returns-clause-shows
+returns-clause-shows g c = shows_below (g.S.Stock.tables c.args.below) _ _ (search rules) (search rules) (g.S.Stock.lawful c.args.below)

@@ -1,28 +1,24 @@
-use Rattle.std.proofs.Common.{◌≡◌, ◌+◌, ◌-◌, [], length, get_or, take, sym, ap, ◌∙◌, arith}
-use Rattle.std.proofs.lemmas.List.{length-take-le}
+use Rattle.std.proofs.Common.{◌≡◌, ◌<◌, ◌≤◌, length, [], get_or, sym, ap, ◌∙◌, rules, tests, arith}
+use Rattle.std.proofs.lemmas.Iterator.Adapters.{YieldsList-from_rev_slice, serves_from_total}
+use Rattle.std.proofs.lemmas.Iterator.Consumers.{fold_from_yields_List}
 use Rattle.stock.specs.Tables.{rows_at}
-use Rattle.movements.specs.Moves.{remaining}
-use Rattle.movements.specs.Moving.{remaining_more, get_or_take_out, take_whole, before_small}
+use Rattle.movements.specs.Moves.{before}
+use Rattle.movements.specs.Moving.{before_small}
+use Rattle.movements.proofs.Walked.{source_by, steps_back}
 use Rattle.movements.proofs.movements.Movements.source.Goals as goal
 
-pub loop-i-init : goal.loop-i-init
-loop-i-init g c = (
-  omega arith,
-  omega arith,
-  ap (λ x. get_or (remaining c.args.table x (rows_at (g.S.Stock.tables c.args.self.now.below) c.args.table)) c.args.place []) (sym (take_whole c.args.self.now.hidden.count c.args.self.now.hidden.count c.args.self.now.hidden.items (omega arith) (omega arith))),
-)
+pub fold-requires-clause-callable : goal.fold-requires-clause-callable
+fold-requires-clause-callable g c =
+    let hs = c.args.self.now.hidden.items in
+    let few = steps_back hs in
+    let held : length hs ≤ 64 = rw c.deref.ensures.0 at c.deref.ensures.1 in
+    serves_from_total (YieldsList-from_rev_slice hs cc) (λ _. 1)
+    (λ n x q k. let moves : q.1 ≡ before c.args.table x.now n = search (rules, tests) in let s = before_small c.args.table x.now n in (search rules, omega arith))
+    (λ n x l. let small : n < 131072 = omega arith in search rules)
 
-pub loop-i-preserved : goal.loop-i-preserved
-loop-i-preserved g c =
+pub returns : goal.returns
+returns g c =
+    let s = c.args.self.now in
     let t = c.args.table in
-    let i = c.loop-i.i - 1 in
-    let q = c.loop-i.q in
-    let h = c.at.result in
-    let hs = take c.args.self.now.hidden.count c.args.self.now.hidden.items in
-    let rs = rows_at (g.S.Stock.tables c.args.self.now.below) t in
-    let n : length hs ≡ c.args.self.now.hidden.count = length-take-le _ _ (omega arith) in
-    let same : i + 1 ≡ c.loop-i.i = omega arith in (
-      omega arith,
-      omega (arith, before_small t h q, c.raise-q.ensures),
-      c.loop-i.invariant.2 ∙ ap (λ k. get_or (remaining t (take k hs) rs) q []) (sym same) ∙ ap (λ x. get_or x q []) (remaining_more t hs i h rs (omega arith) c.at.ensures) ∙ get_or_take_out t h (remaining t (take i hs) rs) q [] ∙ ap (λ k. get_or (remaining t (take i hs) rs) k []) (sym c.raise-q.ensures),
-    )
+    source_by t s.hidden.items (rows_at (g.S.Stock.tables s.below) t) c.args.place []
+    ∙ ap (λ q. get_or (rows_at (g.S.Stock.tables s.below) t) q []) (sym (fold_from_yields_List _ (λ q h. before t h q) c.args.place c.fold.result c.fold.ensures.ran (YieldsList-from_rev_slice s.hidden.items cc) (λ a x b q k. search (rules, tests))))

@@ -1,7 +1,17 @@
-use Rattle.std.proofs.Common.{sym, arith}
+use Rattle.std.proofs.Common.{◌≡◌, length, get_or, sym, ◌∙◌, inl, inr, rules, arith}
+use Rattle.std.proofs.lemmas.List.{get_or_default, get_or_past}
+use Rattle.std.proofs.lemmas.Bool.{cases_lt}
 use Rattle.query.specs.Queries.{lines_of, widths_of}
-use Rattle.query.proofs.Tabling.{past_width, front_is}
+use Rattle.query.proofs.Tabling.{past_width}
 use Rattle.query.proofs.query.Query.line_width.Goals as goal
 
-pub returns-else-i-self : goal.returns-else-i-self
-returns-else-i-self c = let q = c.args.self.now in sym (past_width (lines_of q) (widths_of q) c.args.i (omega (arith, front_is q.lines q.size 32 q.few q.long)))
+pub returns : goal.returns
+returns c =
+    let q = c.args.self.now in
+    let w = q.widths.each.items in
+    let i = c.args.i in
+    let e : c.unwrap_or.result ≡ get_or w i 1 = search rules in
+    e ∙ elim (cases_lt i (length w)) [
+      | inl h ↦ get_or_default w i 1 0 h ∙ q.measured.widths i (omega (arith, q.measured.long))
+      | inr h ↦ get_or_past w i 1 h ∙ sym (past_width (lines_of q) (widths_of q) i (omega (arith, q.measured.long)))
+    ]

@@ -1,14 +1,7 @@
-use Rattle.session.proofs.Steps.{steps_add, same_add}
+use Rattle.session.proofs.Steps.{steps_add}
 use Rattle.session.proofs.session.Session.add.Goals as goal
 
-pub returns : goal.returns
-returns g c =
-    let tables = g.S.Stock.tables in
+pub returns-clause-steps : goal.returns-clause-steps
+returns-clause-steps g c =
     let e = c.add.ensures in
-    let s = c.args.self.now in
-    let n = c.add.new.self in
-    record {
-      made = e.shows;
-      steps = steps_add tables s n c.args.table c.args.row.now c.add.result e.shows e.parts e.uncut;
-      same = same_add tables s n c.args.table c.args.row.now c.add.result e.shows;
-    }
+    steps_add g.S.Stock.tables c.args.self.now c.add.new.self c.args.table c.args.row.now c.add.result e.shows e.parts e.uncut

@@ -1,8 +1,0 @@
-use Rattle.lines.specs.Shapes.{line_at}
-use Rattle.query.specs.Reads.{Never}
-use Rattle.query.specs.Contexts.{outside}
-use Rattle.query.specs.Working.{listed}
-use Rattle.query.proofs.contexts.first_stray.Given as goal
-
-abbrev pub invariant-loop-i : goal.invariant-loop-i
-invariant-loop-i l = Never (λ i. outside (listed l.contexts i) (listed l.widths) (line_at l.lines i)) l.i

@@ -1,4 +1,0 @@
-use Rattle.query.proofs.sums.+own_marks.Given as goal
-
-abbrev pub decreases-own_marks : goal.decreases-own_marks
-decreases-own_marks l = l.i

@@ -1,2 +1,0 @@
-// What the tour says.
-pub mod answers;
