@@ -25,7 +25,7 @@ abbrev pub rows_remaining : {X : Type 0} → (X → List Table) → Movements X 
 rows_remaining tables m t = length (remaining t (items_of m.hidden) (rows_at (tables m.below) t))
 
 -- no table has more rows than a table may show. A new layer starts so and every call keeps it;
--- the type cannot carry it, since it speaks of the stock below
+-- it is no fact of the type, which would then ask of whoever names it that S is a stock
 abbrev pub Uncut : {X : Type 0} → (X → List Table) → Movements X → Type 0
 Uncut tables m = (t : ℕ) → rows_remaining tables m t + added_count t (items_of m.added) ≤ 65535
 
