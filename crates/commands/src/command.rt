@@ -5,17 +5,17 @@ use cells::cell::Cell;
 use lines::line::Line;
 use std::alloc::AllocError;
 
-// What a line asks for.
+// What a line asks for. The cells of Row and Add are read apart.
 #[derive(Clone, Copy, Debug, PartialEq, Eq)]
-pub enum Command<'a> {
+pub enum Command {
     Table(usize),
-    Row(&'a [Cell]),
+    Row,
     Open,
     Line(Line),
     Lay,
     Unnest,
     Plan,
-    Add(usize, &'a [Cell]),
+    Add(usize),
     Withdraw(usize, usize),
     Clear,
     Ask(usize),
@@ -24,7 +24,7 @@ pub enum Command<'a> {
 }
 
 // A command of words and numbers alone, with no word behind it.
-fn plain(name: &[u8], words: &mut Words) -> Option<Command<'static>> {
+fn plain(name: &[u8], words: &mut Words) -> Option<Command> {
     let command = match name {
         b"table" => Command::Table(words.count()?),
         b"open" => Command::Open,
@@ -43,34 +43,31 @@ fn plain(name: &[u8], words: &mut Words) -> Option<Command<'static>> {
     Some(command)
 }
 
-// The words left as the cells of a row, laid in the room of the row before.
-fn row<'a>(words: &mut Words, room: &'a mut Vec<Cell>) -> Result<Option<&'a [Cell]>, AllocError> {
-    room.clear();
+// Puts the words left into the row, or answers None where one of them is no cell.
+fn read_cells(words: &mut Words, row: &mut Vec<Cell>) -> Result<Option<()>, AllocError> {
+    row.clear();
     for word in words {
         let Some(cell) = cell(word) else {
             return Ok(None);
         };
-        room.push(cell)?;
+        row.push(cell)?;
     }
-    Ok(Some(room))
+    Ok(Some(()))
 }
 
-impl<'a> Command<'a> {
-    // The command that the words say, or None where they say none.
-    pub fn read(
-        words: &mut Words,
-        room: &'a mut Vec<Cell>,
-    ) -> Result<Option<Command<'a>>, AllocError> {
+impl Command {
+    // The command that the words say, or None where they say none. A row's cells are put into `row`.
+    pub fn read(words: &mut Words, row: &mut Vec<Cell>) -> Result<Option<Command>, AllocError> {
         let Some(name) = words.next() else {
             return Ok(None);
         };
         match name {
-            b"row" => Ok(row(words, room)?.map(Command::Row)),
+            b"row" => Ok(read_cells(words, row)?.map(|_| Command::Row)),
             b"add" => {
                 let Some(table) = words.count() else {
                     return Ok(None);
                 };
-                Ok(row(words, room)?.map(|row| Command::Add(table, row)))
+                Ok(read_cells(words, row)?.map(|_| Command::Add(table)))
             }
             name => Ok(plain(name, words)),
         }

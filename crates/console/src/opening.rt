@@ -65,7 +65,7 @@ fn obey<W: Write>(
 ) -> io::Result<bool> {
     match said.command {
         Some(Command::Table(width)) => parts.pairs.push((width, 0))?,
-        Some(Command::Row(row)) if parts.takes(row) => parts.put(row)?,
+        Some(Command::Row) if parts.takes(said.row) => parts.put(said.row)?,
         Some(Command::Line(line)) => lines.push(line)?,
         Some(Command::Open) => return open(out, parts),
         _ => unread(out, said.place)?,

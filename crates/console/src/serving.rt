@@ -47,7 +47,7 @@ impl<W: Write, S: Stock> Service<W, S> {
             }
             Some(Command::Unnest) => answered(out, "unnest", session.unnest()),
             Some(Command::Plan) => plan(out, session),
-            Some(Command::Add(table, row)) => answered(out, "add", session.add(table, row)),
+            Some(Command::Add(table)) => answered(out, "add", session.add(table, said.row)),
             Some(Command::Withdraw(table, place)) => {
                 answered(out, "withdraw", session.withdraw(table, place))
             }
@@ -66,7 +66,7 @@ impl<W: Write, S: Stock> Service<W, S> {
                 rows(out, "run", answer, lent)
             }
             Some(Command::Show(table)) => shown(out, session.stock(), table),
-            Some(Command::Table(_) | Command::Row(_) | Command::Open) | None => {
+            Some(Command::Table(_) | Command::Row | Command::Open) | None => {
                 unread(out, said.place)
             }
         }
