@@ -1,5 +1,5 @@
 // The check over a stock, and what an accepted query tells.
-ghost use Rattle.std.specs.Prelude.{◌≡◌, ℕ, ◌-◌, ◌<◌, ◌≤◌, [], length, MatchResult, slice_index};
+ghost use Rattle.std.specs.Prelude.{◌≡◌, ℕ, ◌-◌, ◌<◌, ◌≤◌, [], length, take, MatchResult, slice_index};
 ghost use Rattle.stock.specs.Tables.{widths};
 ghost use Rattle.lines.specs.Trees.{width};
 ghost use Rattle.lines.specs.Lines.{answer};
@@ -15,6 +15,17 @@ use lines::line::Line;
 use stock::refusal::Refusal;
 use stock::stock::Stock;
 
+// At most 32 lines, followed by Units.
+fn copy_lines(lines: &[Line]) -> [Line; 32]
+    requires { length lines.now ≤ 32 }
+    ensures long { length result ≡ 32 }
+    ensures same { take (length lines.now) result ≡ lines.now }
+{
+    let mut all = [Line::Unit; 32];
+    all[..lines.len()].copy_from_slice(lines);
+    all
+}
+
 impl Query {
     // Checks lines against the tables of a stock: the query of these lines where there is no cause to refuse them,
     // and else the least cause.
@@ -23,14 +34,19 @@ impl Query {
     {
         let draft = Draft::new(lines, stock)?;
         let widths = draft.check()?;
-        Ok(Query { draft, widths })
+        Ok(Query {
+            lines: copy_lines(lines),
+            size: lines.len(),
+            tables: draft.tables,
+            widths,
+        })
     }
 
     // How many lines there are.
     pub fn size(&self) -> usize
         ensures { result ≡ length (lines_of self.now) }
     {
-        self.draft.lines.len()
+        self.lines().len()
     }
 
     // The number of the last line. What the check says of the whole query stands here.
@@ -55,7 +71,7 @@ impl Query {
     pub fn line(&self, i: usize) -> Line
         ensures { result ≡ line_at (lines_of self.now) i }
     {
-        self.draft.line(i)
+        self.lines().get(i).copied().unwrap_or_default()
     }
 
     // How many columns of its own line i has; 1 where there is no such line, as a Unit has.
@@ -69,14 +85,14 @@ impl Query {
     pub fn lines(&self) -> &[Line]
         ensures { result.now ≡ lines_of self.now }
     {
-        &self.draft.lines
+        &self.lines[..self.size]
     }
 
     // The widths of the tables that it was checked against.
     pub fn table_widths(&self) -> &[usize]
         ensures { result.now ≡ widths_of self.now }
     {
-        &self.draft.tables
+        &self.tables
     }
 
     // How many columns of its own each line has.
@@ -91,13 +107,13 @@ impl Query {
     pub fn table_count(&self) -> usize
         ensures { result ≡ length (widths_of self.now) }
     {
-        self.draft.tables.len()
+        self.tables.len()
     }
 
     // The width of a table, 0 where there is none.
     pub fn table_width(&self, table: usize) -> usize
         ensures { result ≡ slice_index (widths_of self.now) table }
     {
-        self.draft.table_width(table)
+        self.tables.get(table).copied().unwrap_or(0)
     }
 }

@@ -9,17 +9,17 @@ use crate::draft::Draft;
 use crate::widths::Widths;
 use stock::refusal::Refusal;
 
-impl Draft {
+impl Draft<'_> {
     // Refuses the first line at which a test holds.
     pub(crate) fn refuse_first<F: Fn(usize) -> bool, R: Fn(usize) -> Refusal>(
         &self,
         is_faulty: F,
         refusal: R,
     ) -> Result<(), Refusal>
-        requires tests { (i : ℕ) → i < length self.now.lines.items → F.pre is_faulty i }
+        requires tests { (i : ℕ) → i < length self.now.lines.now → F.pre is_faulty i }
         requires refuses { R.IsAlwaysCallable refusal }
-        ensures { (p : ℕ → Bool) → ((i : ℕ) (b : Bool) → i < length self.now.lines.items → F.post is_faulty i b → b ≡ p i)
-            → MatchResult result (λ _. Never p (length self.now.lines.items)) (λ e. (i : ℕ) × First p (length self.now.lines.items) i × R.post refusal i e) }
+        ensures { (p : ℕ → Bool) → ((i : ℕ) (b : Bool) → i < length self.now.lines.now → F.post is_faulty i b → b ≡ p i)
+            → MatchResult result (λ _. Never p (length self.now.lines.now)) (λ e. (i : ℕ) × First p (length self.now.lines.now) i × R.post refusal i e) }
     {
         // `find` would want the clauses once more, on a closure that calls the test.
         for i in 0..self.lines.len() {
@@ -31,7 +31,7 @@ impl Draft {
     }
 
     fn check_reads(&self) -> Result<(), Refusal>
-        ensures { MatchResult result (λ _. Passed self.now.lines.items self.now.tables.items 4) (λ e. Refused self.now.lines.items self.now.tables.items e) }
+        ensures { MatchResult result (λ _. Passed self.now.lines.now self.now.tables.items 4) (λ e. Refused self.now.lines.now self.now.tables.items e) }
     {
         self.refuse_first(|i| self.is_misread(i), Refusal::Operand)?;
         self.refuse_first(|i| self.is_isolated(i), Refusal::Reading)?;
@@ -40,7 +40,7 @@ impl Draft {
 
     // The widths of all lines of an accepted query, or the first cause to refuse it.
     pub(crate) fn check(&self) -> Result<Widths, Refusal>
-        ensures { MatchResult result (λ w. Accepted self.now.lines.items self.now.tables.items × Measured self.now.lines.items self.now.tables.items w.each.items) (λ e. Refused self.now.lines.items self.now.tables.items e) }
+        ensures { MatchResult result (λ w. Accepted self.now.lines.now self.now.tables.items × Measured self.now.lines.now self.now.tables.items w.each.items) (λ e. Refused self.now.lines.now self.now.tables.items e) }
     {
         self.check_reads()?;
         let widths = self.measure()?;

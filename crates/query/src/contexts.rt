@@ -77,10 +77,10 @@ fn is_outside(context: usize, widths: &Widths, line: Line) -> bool
     }
 }
 
-impl Draft {
+impl Draft<'_> {
     // The widths of all lines' contexts, with a place for each line that there may be.
     fn contexts(&self, widths: &Widths) -> [usize; 32]
-        ensures is { (i : ℕ) → i < 32 → listed result i ≡ read_under (wider_by widths.now.each.items) 0 0 self.now.lines.items i }
+        ensures is { (i : ℕ) → i < 32 → listed result i ≡ read_under (wider_by widths.now.each.items) 0 0 self.now.lines.now i }
         ensures modest { Modest result }
     {
         let mut contexts = [0; 32];
@@ -96,9 +96,9 @@ impl Draft {
 
     // Refuses a line whose long row has over 32 columns, or that names a column outside it.
     pub(crate) fn check_columns(&self, widths: &Widths) -> Result<(), Refusal>
-        requires passed { Passed self.now.lines.items self.now.tables.items 4 }
-        requires measured { Measured self.now.lines.items self.now.tables.items widths.now.each.items }
-        ensures { MatchResult result (λ _. Passed self.now.lines.items self.now.tables.items 7) (λ e. Refused self.now.lines.items self.now.tables.items e) }
+        requires passed { Passed self.now.lines.now self.now.tables.items 4 }
+        requires measured { Measured self.now.lines.now self.now.tables.items widths.now.each.items }
+        ensures { MatchResult result (λ _. Passed self.now.lines.now self.now.tables.items 7) (λ e. Refused self.now.lines.now self.now.tables.items e) }
     {
         let contexts = self.contexts(widths);
         self.refuse_first(

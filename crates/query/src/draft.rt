@@ -10,12 +10,13 @@ use lines::line::Line;
 use stock::refusal::Refusal;
 use stock::stock::Stock;
 
+// The lines are lent: they are copied once there is a query of them.
 #[derive(Drop)]
-pub(crate) struct Draft {
-    pub(crate) lines: ArrayVec<Line, 32>,
+pub(crate) struct Draft<'a> {
+    pub(crate) lines: &'a [Line],
     pub(crate) tables: ArrayVec<usize, 16>,
-    ghost some: { 1 ≤ length lines.items },
-    ghost few: { length lines.items ≤ 32 },
+    ghost some: { 1 ≤ length lines.now },
+    ghost few: { length lines.now ≤ 32 },
     ghost sized: { Sized tables.items },
 }
 
@@ -31,15 +32,14 @@ fn table_widths<S: Stock>(stock: &S) -> ArrayVec<usize, 16>
     all
 }
 
-impl Draft {
+impl<'a> Draft<'a> {
     // These lines, of which there must be 1 to 32, over the tables of a stock.
-    pub(crate) fn new<S: Stock>(lines: &[Line], stock: &S) -> Result<Draft, Refusal>
-        ensures { MatchResult result (λ d. (d.lines.items ≡ lines.now) × (d.tables.items ≡ widths (S.Stock.tables stock.now))) (λ e. Refused lines.now (widths (S.Stock.tables stock.now)) e) }
+    pub(crate) fn new<S: Stock>(lines: &'a [Line], stock: &S) -> Result<Draft<'a>, Refusal>
+        ensures { MatchResult result (λ d. (d.lines.now ≡ lines.now) × (d.tables.items ≡ widths (S.Stock.tables stock.now))) (λ e. Refused lines.now (widths (S.Stock.tables stock.now)) e) }
     {
-        if lines.is_empty() {
-            return Err(Refusal::LineCount(0));
+        if lines.is_empty() || lines.len() > 32 {
+            return Err(Refusal::LineCount(lines.len()));
         }
-        let lines = ArrayVec::try_from(lines).map_err(|_| Refusal::LineCount(lines.len()))?;
         Ok(Draft {
             lines,
             tables: table_widths(stock),
@@ -48,7 +48,7 @@ impl Draft {
 
     // Line i, or a Unit where there is none.
     pub(crate) fn line(&self, i: usize) -> Line
-        ensures { result ≡ line_at self.now.lines.items i }
+        ensures { result ≡ line_at self.now.lines.now i }
     {
         self.lines.get(i).copied().unwrap_or_default()
     }

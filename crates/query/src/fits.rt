@@ -59,10 +59,10 @@ fn is_misfit(line: Line, widths: &Widths) -> bool
     }
 }
 
-impl Draft {
+impl Draft<'_> {
     // Whether line i names a table that the stock lacks.
     pub(crate) fn is_unknown(&self, i: usize) -> bool
-        ensures { result ≡ unknown_table self.now.tables.items (line_at self.now.lines.items i) }
+        ensures { result ≡ unknown_table self.now.tables.items (line_at self.now.lines.now i) }
     {
         matches!(self.line(i), Line::Table { table } if table >= self.tables.len())
     }
@@ -99,8 +99,8 @@ impl Draft {
 
     // The widths of all lines, or the first line whose counts, widths or constants are out of their bounds.
     pub(crate) fn measure(&self) -> Result<Widths, Refusal>
-        requires { Passed self.now.lines.items self.now.tables.items 4 }
-        ensures { MatchResult result (λ w. Measured self.now.lines.items self.now.tables.items w.each.items) (λ e. Refused self.now.lines.items self.now.tables.items e) }
+        requires { Passed self.now.lines.now self.now.tables.items 4 }
+        ensures { MatchResult result (λ w. Measured self.now.lines.now self.now.tables.items w.each.items) (λ e. Refused self.now.lines.now self.now.tables.items e) }
     {
         let mut widths = Widths::new();
         for (i, line) in self.lines.iter().enumerate() {

@@ -19,23 +19,23 @@ fn times(shape: Shape, i: usize) -> usize
     }
 }
 
-impl Draft {
+impl Draft<'_> {
     // Whether line a is lower than line i and has rows; and whether it is a condition. A flag for the one or the other would be
     // no plainer.
     fn rows_below(&self, i: usize, a: usize) -> bool
-        ensures { result ≡ rows_below self.now.lines.items i a }
+        ensures { result ≡ rows_below self.now.lines.now i a }
     {
         a < i && !self.line(a).is_condition()
     }
 
     fn condition_below(&self, i: usize, a: usize) -> bool
-        ensures { result ≡ condition_below self.now.lines.items i a }
+        ensures { result ≡ condition_below self.now.lines.now i a }
     {
         a < i && self.line(a).is_condition()
     }
 
     fn well_read(&self, i: usize, shape: Shape) -> bool
-        ensures { result ≡ well_read self.now.lines.items i shape }
+        ensures { result ≡ well_read self.now.lines.now i shape }
     {
         match shape {
             Shape::Leaf => true,
@@ -51,21 +51,21 @@ impl Draft {
 
     // Whether line i has an operand that is not lower, or of the wrong kind.
     pub(crate) fn is_misread(&self, i: usize) -> bool
-        ensures { result ≡ misread self.now.lines.items i }
+        ensures { result ≡ misread self.now.lines.now i }
     {
         !self.well_read(i, self.line(i).shape())
     }
 
     fn times_in(&self, i: usize) -> usize
-        ensures { result ≡ times_in self.now.lines.items i }
+        ensures { result ≡ times_in self.now.lines.now i }
     {
         self.lines.iter().map(|line| times(line.shape(), i)).sum()
     }
 
     // Whether line i is not read exactly once, or is the last and a condition.
     pub(crate) fn is_isolated(&self, i: usize) -> bool
-        requires { i < length self.now.lines.items }
-        ensures { result ≡ isolated self.now.lines.items i }
+        requires { i < length self.now.lines.now }
+        ensures { result ≡ isolated self.now.lines.now i }
     {
         if i + 1 == self.lines.len() {
             self.line(i).is_condition()

@@ -56,7 +56,7 @@ fn is_summed(aggregate: Aggregate, mark: bool) -> bool
     matches!(aggregate, Aggregate::Sum) && mark
 }
 
-impl Draft {
+impl Draft<'_> {
     // The marks of a line's own columns, by those of its context and of its operands' own columns.
     fn marks_by(&self, line: Line, context: &Marks, first: &Marks, second: &Marks) -> Marks
         requires { length (own_by self.now.tables.items context.now first.now second.now line) ≤ 32 }
@@ -97,8 +97,8 @@ impl Draft {
 
     // The marks of line i's own columns in a context with given marks. Each line below it is looked at once.
     fn own_marks(&self, i: usize, context: &Marks) -> Marks
-        requires { Standing self.now.lines.items self.now.tables.items i context.now }
-        ensures { result ≡ own self.now.tables.items context.now (tree_at self.now.lines.items i) }
+        requires { Standing self.now.lines.now self.now.tables.items i context.now }
+        ensures { result ≡ own self.now.tables.items context.now (tree_at self.now.lines.now i) }
     {
         let line = self.line(i);
         let none = Marks::plain(0);
@@ -124,8 +124,8 @@ impl Draft {
 
     // The marks of line a's long row in a context with given marks.
     fn longer_marks(&self, a: usize, context: &Marks) -> Marks
-        requires { Standing self.now.lines.items self.now.tables.items a context.now }
-        ensures { result ≡ longer self.now.lines.items self.now.tables.items a context.now }
+        requires { Standing self.now.lines.now self.now.tables.items a context.now }
+        ensures { result ≡ longer self.now.lines.now self.now.tables.items a context.now }
     {
         let row = self.own_marks(a, context);
         context.then(&row, 0)
@@ -133,8 +133,8 @@ impl Draft {
 
     // What line i's operand that is read once for each row of the first is read under.
     fn inner_marks(&self, i: usize, context: &Marks) -> Marks
-        requires { Placed self.now.lines.items self.now.tables.items i context.now }
-        ensures { (k : ℕ) → widens (shape_of (line_at self.now.lines.items i)) k ≡ true → result ≡ longer self.now.lines.items self.now.tables.items (first_of (shape_of (line_at self.now.lines.items i))) context.now }
+        requires { Placed self.now.lines.now self.now.tables.items i context.now }
+        ensures { (k : ℕ) → widens (shape_of (line_at self.now.lines.now i)) k ≡ true → result ≡ longer self.now.lines.now self.now.tables.items (first_of (shape_of (line_at self.now.lines.now i))) context.now }
     {
         match self.line(i).shape() {
             Shape::Tested(a, _) | Shape::Inner(a, _) => self.longer_marks(a, context),
@@ -144,9 +144,9 @@ impl Draft {
 
     // The marks of every line's context, with a place for each line that there may be.
     fn context_marks(&self) -> [Marks; 32]
-        requires { Passed self.now.lines.items self.now.tables.items 7 }
+        requires { Passed self.now.lines.now self.now.tables.items 7 }
         ensures long { length result ≡ 32 }
-        ensures is { (i : ℕ) → i < 32 → marked result i ≡ marks_at self.now.lines.items self.now.tables.items i }
+        ensures is { (i : ℕ) → i < 32 → marked result i ≡ marks_at self.now.lines.now self.now.tables.items i }
     {
         let mut contexts = [Marks::plain(0); 32];
         // As with the widths of contexts; what is handed down differs in all but the order.
@@ -160,10 +160,10 @@ impl Draft {
 
     // Whether line i sums a column that comes from a sum.
     fn is_resummed(&self, i: usize, contexts: &[Marks; 32]) -> bool
-        requires passed { Passed self.now.lines.items self.now.tables.items 7 }
-        requires within { i < length self.now.lines.items }
-        requires marks { (k : ℕ) → k < 32 → marked contexts.now k ≡ marks_at self.now.lines.items self.now.tables.items k }
-        ensures { result ≡ resummed self.now.lines.items self.now.tables.items i }
+        requires passed { Passed self.now.lines.now self.now.tables.items 7 }
+        requires within { i < length self.now.lines.now }
+        requires marks { (k : ℕ) → k < 32 → marked contexts.now k ≡ marks_at self.now.lines.now self.now.tables.items k }
+        ensures { result ≡ resummed self.now.lines.now self.now.tables.items i }
     {
         let context = contexts[i];
         match self.line(i) {
@@ -184,8 +184,8 @@ impl Draft {
 
     // Refuses a line that sums a column which comes from a sum.
     pub(crate) fn check_sums(&self) -> Result<(), Refusal>
-        requires { Passed self.now.lines.items self.now.tables.items 7 }
-        ensures { MatchResult result (λ _. Accepted self.now.lines.items self.now.tables.items) (λ e. Refused self.now.lines.items self.now.tables.items e) }
+        requires { Passed self.now.lines.now self.now.tables.items 7 }
+        ensures { MatchResult result (λ _. Accepted self.now.lines.now self.now.tables.items) (λ e. Refused self.now.lines.now self.now.tables.items e) }
     {
         let contexts = self.context_marks();
         self.refuse_first(|i| self.is_resummed(i, &contexts), Refusal::SumOfSum)

@@ -9,7 +9,7 @@ use Rattle.query.proofs.draft.Draft.check_columns.Goals as goal
 
 pub returns-in_err-refuse_first : goal.returns-in_err-refuse_first
 returns-in_err-refuse_first c =
-    let ls = c.args.self.now.lines.items in
+    let ls = c.args.self.now.lines.now in
     let ws = c.args.self.now.tables.items in
     let w = c.args.widths.now.each.items in
     let d = c.contexts-contexts.result in
@@ -20,7 +20,7 @@ returns-in_err-refuse_first c =
 
 pub returns : goal.returns
 returns c =
-    let ls = c.args.self.now.lines.items in
+    let ls = c.args.self.now.lines.now in
     let ws = c.args.self.now.tables.items in
     let w = c.args.widths.now.each.items in
     let d = c.contexts-contexts.result in

@@ -10,7 +10,7 @@ use Rattle.query.proofs.draft.Draft.check_reads.Goals as goal
 pub returns-in_err-refuse_first : goal.returns-in_err-refuse_first
 returns-in_err-refuse_first c =
     let d = c.args.self.now in
-    let ls = d.lines.items in
+    let ls = d.lines.now in
     let ws = d.tables.items in
     let p = err_from_is_err_and c.from_residual.result c.from_residual.ensures.1 in
     rw (p.1, p.2)
@@ -19,17 +19,18 @@ returns-in_err-refuse_first c =
 pub returns-in_err-refuse_first-2 : goal.returns-in_err-refuse_first-2
 returns-in_err-refuse_first-2 c =
     let d = c.args.self.now in
-    let ls = d.lines.items in
+    let ls = d.lines.now in
     let ws = d.tables.items in
     let P = passed2 ls ws (passed1 ls ws d.some d.few) (c.in_ok-refuse_first.ensures (misread ls) (λ i b k e. search rules)) in
     let p = err_from_is_err_and c.from_residual-in_err-refuse_first-2.result c.from_residual-in_err-refuse_first-2.ensures.1 in
+    let q = c.in_err-refuse_first-2.ensures (isolated ls) (λ i b k e. search rules) in
     rw (p.1, p.2)
-    (refuse_with ls ws Reading (isolated ls) _ (λ i f. refuse3 ls ws i P f) (c.in_err-refuse_first-2.ensures (isolated ls) (λ i b k e. search rules)))
+    (refuse_with ls ws Reading (isolated ls) _ (λ i f. refuse3 ls ws i P f) (q.0, q.1, search rules))
 
 pub returns : goal.returns
 returns c =
     let d = c.args.self.now in
-    let ls = d.lines.items in
+    let ls = d.lines.now in
     let ws = d.tables.items in
     let P = passed3 ls ws (passed2 ls ws (passed1 ls ws d.some d.few) (c.in_ok-refuse_first.ensures (misread ls) (λ i b k e. search rules))) (c.in_ok-refuse_first-2.ensures (isolated ls) (λ i b k e. search rules)) in
     MatchResult-weaker c.refuse_first-3.result (c.refuse_first-3.ensures (λ i. unknown_table ws (line_at ls i)) (λ i b k e. search rules)) (λ _ N. passed4 ls ws P N)

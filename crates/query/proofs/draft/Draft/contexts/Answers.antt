@@ -9,17 +9,17 @@ use Rattle.query.proofs.draft.Draft.contexts.Goals as goal
 
 pub loop-j-init : goal.loop-j-init
 loop-j-init c =
-    let ls = c.args.self.now.lines.items in
-    let n = c.len-j.result in
+    let ls = c.args.self.now.lines.now in
+    let n = length ls in
     record {
-      under = λ i h. zeros 32 i ∙ sym (under_end (wider_by c.args.widths.now.each.items) 0 ls n n i (omega (arith, c.len-j.ensures.value)));
+      under = λ i h. zeros 32 i ∙ sym (under_end (wider_by c.args.widths.now.each.items) 0 ls n n i (omega arith));
       small = λ i. omega (arith, zeros 32 i);
       long = refl;
     }
 
 pub loop-j-preserved : goal.loop-j-preserved
 loop-j-preserved c =
-    let ls = c.args.self.now.lines.items in
+    let ls = c.args.self.now.lines.now in
     let w = c.args.widths.now.each.items in
     let n = length ls in
     let j = c.loop-j.j in
@@ -27,7 +27,7 @@ loop-j-preserved c =
     let y = x + c.at.result in
     let B = (n - (j - 1)) * 137438953472 in
     let V = c.loop-j.invariant in
-    let m : j ≤ n = omega (arith, c.len-j.ensures.value, c.loop-j.auto.j) in
+    let m : j ≤ n = omega (arith, c.loop-j.auto.j) in
     let b : x ≤ (n - j) * 137438953472 = V.small (j - 1) in
     record {
       under = under_step (wider_by w) 0 ls (listed c.loop-j.contexts) (listed c.hand_down.new.contexts) (j - 1) j c.shape-shape.result y

@@ -5,7 +5,7 @@ use Rattle.query.proofs.draft.Draft.contexts.Given as goal
 
 abbrev pub invariant-loop-j : goal.invariant-loop-j
 invariant-loop-j l = record {
-  under : (i : ℕ) → i < 32 → listed l.contexts i ≡ read_under (wider_by l.widths.each.items) 0 l.j (drop l.j l.self.lines.items) i;
-  small : (i : ℕ) → listed l.contexts i ≤ (length l.self.lines.items - l.j) * 137438953472;
+  under : (i : ℕ) → i < 32 → listed l.contexts i ≡ read_under (wider_by l.widths.each.items) 0 l.j (drop l.j l.self.lines.now) i;
+  small : (i : ℕ) → listed l.contexts i ≤ (length l.self.lines.now - l.j) * 137438953472;
   long : length l.contexts ≡ 32;
 }

@@ -8,7 +8,7 @@ use Rattle.query.proofs.draft.Draft.is_resummed.Goals as goal
 
 pub longer_marks-requires : goal.longer_marks-requires
 longer_marks-requires c =
-    let ls = c.args.self.now.lines.items in
+    let ls = c.args.self.now.lines.now in
     let ws = c.args.self.now.tables.items in
     let m = c.args.contexts.now in
     let z = c.index-contexts-i.result in
@@ -17,7 +17,7 @@ longer_marks-requires c =
 
 pub returns-in-Group : goal.returns-in-Group
 returns-in-Group c =
-    let ls = c.args.self.now.lines.items in
+    let ls = c.args.self.now.lines.now in
     let ws = c.args.self.now.tables.items in
     let m = c.args.contexts.now in
     let z = c.index-contexts-i.result in
@@ -29,7 +29,7 @@ returns-in-Group c =
 
 pub returns-in_default : goal.returns-in_default
 returns-in_default c =
-    let ls = c.args.self.now.lines.items in
+    let ls = c.args.self.now.lines.now in
     let ws = c.args.self.now.tables.items in
     let m = c.args.contexts.now in
     let z = c.index-contexts-i.result in

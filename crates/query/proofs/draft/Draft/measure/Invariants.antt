@@ -8,7 +8,7 @@ use Rattle.query.proofs.draft.Draft.measure.Given as goal
 abbrev pub invariant-loop-i : goal.invariant-loop-i
 invariant-loop-i l = record {
   long : length l.widths.each.items ≡ l.i;
-  fits : Never (unfit l.self.lines.items l.self.tables.items) (l.i);
-  measured : (j : ℕ) → j < l.i → listed l.widths.each.items j ≡ width_at l.self.lines.items l.self.tables.items j;
+  fits : Never (unfit l.self.lines.now l.self.tables.items) (l.i);
+  measured : (j : ℕ) → j < l.i → listed l.widths.each.items j ≡ width_at l.self.lines.now l.self.tables.items j;
   small : (a : ℕ) → listed l.widths.each.items a ≤ 32 * 2 ^ l.i;
 }

@@ -7,9 +7,9 @@ loop-i-preserved g c = below_more _ _ c.loop-i.invariant c.if-is_faulty.ensures
 pub returns-then-is_faulty : goal.returns-then-is_faulty
 returns-then-is_faulty g c = λ p h. (
   c.loop-i.i,
-  record { within = omega (arith, c.len-i-end.ensures.value); fault = sym (h c.loop-i.i true (omega (arith, c.len-i-end.ensures.value)) c.if-is_faulty.ensures); before = λ j k. sym (h j false (omega (arith, c.len-i-end.ensures.value)) (c.loop-i.invariant j k)) },
+  record { within = omega arith; fault = sym (h c.loop-i.i true (omega arith) c.if-is_faulty.ensures); before = λ j k. sym (h j false (omega arith) (c.loop-i.invariant j k)) },
   c.refusal.ensures,
 )
 
 pub returns : goal.returns
-returns g c = λ p h. λ j k. sym (h j false k (c.loop-i.invariant j (omega (arith, c.len-i-end.ensures.value))))
+returns g c = λ p h. λ j k. sym (h j false k (c.loop-i.invariant j (omega arith)))

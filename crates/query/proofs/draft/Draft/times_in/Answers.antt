@@ -6,6 +6,6 @@ use Rattle.query.proofs.draft.Draft.times_in.Goals as goal
 
 pub returns : goal.returns
 returns c =
-    let ls = c.args.self.now.lines.items in
+    let ls = c.args.self.now.lines.now in
     let e : c.sum.result ≡ sum (map (λ l. times (shape_of l) c.args.i) ls) = search rules in
     e ∙ sym (times_in_sum ls c.args.i)
