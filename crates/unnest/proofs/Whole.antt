@@ -1,5 +1,6 @@
 -- The emitted lines of the last line are the flat lines of the query, and make a flat plan.
 use Rattle.std.proofs.Common.{◌≡◌, ℕ, ◌-◌, ◌<◌, false, List, [], ◌++◌, length, Ok, Err, Result, sym, refl, ap, ◌∙◌, subst, arith, MatchResult}
+use Rattle.std.proofs.lemmas.List.{length-take-le}
 use Rattle.lines.specs.declared.line.Line.{Line}
 use Rattle.lines.specs.Lines.{answer}
 use Rattle.lines.specs.Marks.{Sound}
@@ -49,7 +50,7 @@ unnested_so q p e f =
     record {
       lines = e;
       widths = f;
-      few = omega (arith, ap length e, p.few);
+      few = omega (arith, ap length e, length-take-le p.count p.lines (omega (arith, p.full, p.few)), p.few);
       no_apply = subst (λ v. (i : ℕ) → i < length v → is_apply (shape_of (line_at v i)) ≡ false) (sym e) (well_formed (widths_of q) (lines_of q) s).no_apply;
       agrees = subst (Agree (widths_of q) (lines_of q)) (sym e) (agreed (widths_of q) (lines_of q) s);
       wide = ap (λ v. width (widths_of q) (answer v)) e ∙ same_width (widths_of q) (lines_of q) s;

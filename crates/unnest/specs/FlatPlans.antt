@@ -11,11 +11,11 @@ use Rattle.unnest.specs.declared.plan.FlatPlan.{FlatPlan}
 use Rattle.unnest.specs.Emit.{flat_lines}
 use Rattle.unnest.specs.Plans.{is_apply}
 use Rattle.unnest.specs.Statement.{Agree}
-use Rattle.std.specs.Prelude.{◌≡◌, ℕ, ◌<◌, ◌≤◌, false, List, length}
+use Rattle.std.specs.Prelude.{◌≡◌, ℕ, ◌<◌, ◌≤◌, false, List, length, take}
 
 -- its lines
 abbrev pub plan_lines : FlatPlan → List Line
-plan_lines p = p.lines.items
+plan_lines p = take p.count p.lines
 
 -- the widths of the tables that it was made for
 abbrev pub plan_widths : FlatPlan → List ℕ

@@ -3,11 +3,11 @@ use Rattle.lines.specs.declared.line.Line.{Line}
 use Rattle.stock.specs.declared.refusal.Refusal.{Refusal}
 use Rattle.stock.specs.declared.refusal.Refusal.TheVariants.{LongPlan}
 use Rattle.unnest.specs.declared.room.Room.{Room}
-use Rattle.std.specs.Prelude.{◌≡◌, ℕ, ◌+◌, ◌<◌, List, ◌++◌, length, Result, MatchResult}
+use Rattle.std.specs.Prelude.{◌≡◌, ℕ, ◌+◌, ◌<◌, List, ◌++◌, length, take, Result, MatchResult}
 
 -- the lines that stand
 abbrev pub laid : Room → List Line
-laid room = room.lines.items
+laid room = take room.count room.lines
 
 -- new lines stand behind those of before, the last of them with the number k
 pub record Emitted (before after new : List Line) (k : ℕ) : Type 0 where

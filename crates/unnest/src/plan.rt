@@ -1,5 +1,5 @@
 // A flat plan.
-ghost use Rattle.std.specs.Prelude.{◌≤◌, length};
+ghost use Rattle.std.specs.Prelude.{◌≡◌, ◌≤◌, length, take};
 ghost use Rattle.query.specs.Sizes.{Sized};
 ghost use Rattle.unnest.specs.Plans.{WellFormed};
 
@@ -9,9 +9,11 @@ use lines::line::Line;
 // Lines that an evaluator runs in their order with no check, and the widths of the tables that they were made for.
 #[derive(Drop)]
 pub struct FlatPlan {
-    pub(crate) lines: ArrayVec<Line, 512>,
+    pub(crate) lines: [Line; 512],
+    pub(crate) count: usize,
     pub(crate) widths: ArrayVec<usize, 16>,
-    ghost few: { length lines.items ≤ 512 },
+    ghost full: { length lines ≡ 512 },
+    ghost few: { count ≤ 512 },
     ghost sized: { Sized widths.items },
-    ghost formed: { ∥ WellFormed widths.items lines.items ∥₁ },
+    ghost formed: { ∥ WellFormed widths.items (take count lines) ∥₁ },
 }

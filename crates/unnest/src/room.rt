@@ -1,12 +1,13 @@
 // Room for the lines of a flat plan.
-ghost use Rattle.std.specs.Prelude.{◌≤◌, length};
+ghost use Rattle.std.specs.Prelude.{◌≡◌, ◌≤◌, length};
 
-use arrayvec::ArrayVec;
 use lines::line::Line;
 
-// The lines that stand. A contract sees only the items of an ArrayVec, so that `few` says its capacity.
+// The first lines stand, the others are unused. An ArrayVec of 512 lines would be filled twice and then moved.
 #[derive(Drop)]
 pub(crate) struct Room {
-    pub(crate) lines: ArrayVec<Line, 512>,
-    ghost few: { length lines.items ≤ 512 },
+    pub(crate) lines: [Line; 512],
+    pub(crate) count: usize,
+    ghost full: { length lines ≡ 512 },
+    ghost few: { count ≤ 512 },
 }

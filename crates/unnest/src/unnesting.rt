@@ -33,8 +33,10 @@ fn plan_of(query: &Query, room: Room) -> FlatPlan
     requires { laid room ≡ asked_lines query.now }
     ensures { Unnested query.now result }
 {
+    let Room { lines, count } = room;
     FlatPlan {
-        lines: room.lines,
+        lines,
+        count,
         widths: table_widths(query),
     }
 }
@@ -54,7 +56,7 @@ impl FlatPlan {
     pub fn lines(&self) -> &[Line]
         ensures { result.now ≡ plan_lines self.now }
     {
-        self.lines.as_slice()
+        &self.lines[0..self.count]
     }
 
     // The widths of the tables that the plan was made for.

@@ -10,8 +10,9 @@ invariant_of-result c =
     let q = c.args.query.now in
     let f = c.table_widths.ensures in
     record {
+      full = c.args.room.full;
       few = c.args.room.few;
-      sized = subst Sized (sym f) q.draft.sized;
+      sized = subst Sized (sym f) q.sized;
       formed = ∣ formed_so (widths_of q) _ (lines_of q) _ f c.requires (sound_answer (lines_of q) (widths_of q) q.accepted) ∣₁;
     }
 
