@@ -20,6 +20,6 @@ add_room ms m n all here t =
     none : (m.table ≡ t → ⊥) → added_count t (m ∷ []) ≡ 0
     none ne = rw (ne_eqb m.table t ne)
 
--- a vector that is not full has room
+-- a list that is not full has room
 pub room_left : (n : ℕ) → n ≤ 64 → eqb n 64 ≡ false → n < 64
 room_left n l e = ⊎_elim (λ s. let z : ◌≡◌ {A = Bool} true false = sym (eq-eqb n 64 s) ∙ e in cc) (λ s. omega arith) (cases_eq n 64)

@@ -1,19 +1,19 @@
 -- What the parts of a layer come to.
 use Rattle.std.specs.Prelude.{◌≡◌, ℕ, ◌+◌, ◌-◌, ◌<◌, ◌≤◌, List, [], ◌∷◌, ◌++◌, length, take}
 use Rattle.std.specs.List.{remove}
-use Rattle.arrayvec.specs.ArrayVec.{ArrayVec}
 use Rattle.cells.specs.Cells.{Row}
 use Rattle.stock.specs.Tables.{Table, rows_at}
 use Rattle.movements.specs.Moves.{moved, remaining, added_count, Nth}
+use Rattle.movements.specs.declared.bounded.Bounded.{Bounded}
 use Rattle.movements.specs.declared.moved.Added.{Added}
 use Rattle.movements.specs.declared.moved.Hidden.{Hidden}
 use Rattle.movements.specs.declared.movements.Movements.{Movements}
 
--- the items of a vector, without its free room
-abbrev pub items_of : {X : Type 0} → ArrayVec X → List X
-items_of b = b.items
+-- the items of a bounded list, without its free room
+abbrev pub items_of : {X : Type 0} {n : ℕ} → Bounded X n → List X
+items_of b = take b.count b.items
 
-abbrev pub shown_by : List Table → ArrayVec Added → ArrayVec Hidden → List Table
+abbrev pub shown_by : List Table → Bounded Added 64 → Bounded Hidden 64 → List Table
 shown_by ts a h = moved (items_of a) (items_of h) ts
 
 -- what a layer shows, over a stock whose meaning `tables` gives

@@ -1,6 +1,5 @@
 // The movements: a row more, a row less, and all of them taken back.
-ghost use Rattle.std.specs.Prelude.{◌≡◌, ◌+◌, [], Some, None, MatchResult};
-ghost use Rattle.arrayvec.specs.ArrayVec.{array_vec_len};
+ghost use Rattle.std.specs.Prelude.{◌≡◌, ◌+◌, Some, None, MatchResult};
 ghost use Rattle.stock.specs.Tables.{width_of, rows_of};
 ghost use Rattle.movements.specs.Moves.{add_cause, withdraw_cause, with_row, without_row};
 ghost use Rattle.movements.specs.Shown.{items_of, shown, rows_remaining, Uncut, Put, Taken};
@@ -17,11 +16,11 @@ impl<S: Stock> Movements<S> {
     // Puts a row at the end of a table and answers how many rows the table then shows.
     pub fn add(&mut self, table: usize, row: &[Cell]) -> Result<usize, Refusal>
         ensures shows { MatchResult result
-            (λ n. (add_cause (shown S.Stock.tables self.old) (array_vec_len self.old.added) table row.now ≡ None)
+            (λ n. (add_cause (shown S.Stock.tables self.old) self.old.added.count table row.now ≡ None)
             × (shown S.Stock.tables self.new ≡ with_row (shown S.Stock.tables self.old) table row.now)
             × (n ≡ rows_of (shown S.Stock.tables self.new) table)
             × (self.new.below ≡ self.old.below))
-            (λ e. (add_cause (shown S.Stock.tables self.old) (array_vec_len self.old.added) table row.now ≡ Some e)
+            (λ e. (add_cause (shown S.Stock.tables self.old) self.old.added.count table row.now ≡ Some e)
             × (self.new ≡ self.old)) }
         ensures parts { MatchResult result
             (λ _. Put table (width_of (S.Stock.tables self.old.below) table) row.now (items_of self.old.added) (items_of self.new.added)
@@ -49,10 +48,10 @@ impl<S: Stock> Movements<S> {
     // Takes out the row shown at a place and answers how many rows the table then shows.
     pub fn withdraw(&mut self, table: usize, place: usize) -> Result<usize, Refusal>
         ensures cause { MatchResult result
-            (λ n. (withdraw_cause (shown S.Stock.tables self.old) (rows_remaining S.Stock.tables self.old table) (array_vec_len self.old.hidden) table place ≡ None)
+            (λ n. (withdraw_cause (shown S.Stock.tables self.old) (rows_remaining S.Stock.tables self.old table) self.old.hidden.count table place ≡ None)
             × (n + 1 ≡ rows_of (shown S.Stock.tables self.old) table)
             × (self.new.below ≡ self.old.below))
-            (λ e. (withdraw_cause (shown S.Stock.tables self.old) (rows_remaining S.Stock.tables self.old table) (array_vec_len self.old.hidden) table place ≡ Some e)
+            (λ e. (withdraw_cause (shown S.Stock.tables self.old) (rows_remaining S.Stock.tables self.old table) self.old.hidden.count table place ≡ Some e)
             × (self.new ≡ self.old)) }
         ensures shows { Uncut S.Stock.tables self.old → MatchResult result
             (λ n. (shown S.Stock.tables self.new ≡ without_row (shown S.Stock.tables self.old) table place)
@@ -83,8 +82,8 @@ impl<S: Stock> Movements<S> {
     // Shows the rows below again.
     pub fn clear(&mut self)
         ensures same { self.new.below ≡ self.old.below }
-        ensures adds { items_of self.new.added ≡ [] }
-        ensures hides { items_of self.new.hidden ≡ [] }
+        ensures adds { self.new.added.count ≡ 0 }
+        ensures hides { self.new.hidden.count ≡ 0 }
         ensures shows { shown S.Stock.tables self.new ≡ S.Stock.tables self.old.below }
         ensures uncut { Uncut S.Stock.tables self.new }
     {

@@ -6,8 +6,8 @@ ghost use Rattle.movements.specs.Moves.{remaining, fewer, before, added_rows, ad
 ghost use Rattle.movements.specs.Moving.{moved_lawful};
 ghost use Rattle.movements.specs.Shown.{items_of, shown_by, shown, Uncut};
 
+use crate::bounded::Bounded;
 use crate::moved::{Added, Hidden};
-use arrayvec::ArrayVec;
 use cells::cell::Cell;
 use stock::limits::MOST_ROWS;
 use stock::stock::Stock;
@@ -19,23 +19,23 @@ pub const LIMIT: usize = 64;
 #[derive(Drop)]
 pub struct Movements<S> {
     pub(crate) below: S,
-    pub(crate) added: ArrayVec<Added, LIMIT>,
-    pub(crate) hidden: ArrayVec<Hidden, LIMIT>,
+    pub(crate) added: Bounded<Added, LIMIT>,
+    pub(crate) hidden: Bounded<Hidden, LIMIT>,
 }
 
 impl<S: Stock> Movements<S> {
     // No movements yet: the layer shows the rows below.
     pub fn over(below: S) -> Movements<S>
         ensures same { result.below ≡ below }
-        ensures adds { items_of result.added ≡ [] }
-        ensures hides { items_of result.hidden ≡ [] }
+        ensures adds { result.added.count ≡ 0 }
+        ensures hides { result.hidden.count ≡ 0 }
         ensures shows { shown S.Stock.tables result ≡ S.Stock.tables below }
         ensures uncut { Uncut S.Stock.tables result }
     {
         Movements {
             below,
-            added: ArrayVec::new(),
-            hidden: ArrayVec::new(),
+            added: Bounded::none(Added::default()),
+            hidden: Bounded::none(Hidden::default()),
         }
     }
 
@@ -44,6 +44,7 @@ impl<S: Stock> Movements<S> {
         ensures { result ≡ length (remaining table (items_of self.now.hidden) (rows_at (S.Stock.tables self.now.below) table)) }
     {
         self.hidden
+            .as_slice()
             .iter()
             .fold(self.below.row_count(table), |n, h| h.shrink(n, table))
     }
@@ -54,6 +55,7 @@ impl<S: Stock> Movements<S> {
         ensures { slice_index_or (remaining table (items_of self.now.hidden) (rows_at (S.Stock.tables self.now.below) table)) place [] ≡ slice_index_or (rows_at (S.Stock.tables self.now.below) table) result [] }
     {
         self.hidden
+            .as_slice()
             .iter()
             .rev()
             .fold(place, |q, h| h.raise(q, table))
@@ -64,19 +66,31 @@ impl<S: Stock> Movements<S> {
         ensures value { result ≡ added_count table (items_of self.now.added) }
         ensures few { result ≤ LIMIT }
     {
-        self.added.iter().filter(|m| m.table == table).count()
+        let added = self.added.as_slice();
+        // A loop over the items, which runs in vectors; `filter().count()` and `fold` do not.
+        let mut n = 0;
+        for m in added {
+            n += usize::from(m.table == table);
+        }
+        n
     }
 
     // The index of the row added to a table after k others.
     pub(crate) fn nth(&self, table: usize, k: usize) -> Option<usize>
         ensures { MatchOption result (added_count table (items_of self.now.added) ≤ k) (λ i. Nth table k (items_of self.now.added) i) }
     {
-        let mut own = self
-            .added
-            .iter()
-            .enumerate()
-            .filter(|(_, m)| m.table == table);
-        own.nth(k).map(|(i, _)| i)
+        let added = self.added.as_slice();
+        // A loop over the items: `filter().nth(k)`, which counts in a walk round a walk, takes 1.7 times as long.
+        let mut left = k;
+        for (i, m) in added.iter().enumerate() {
+            if m.table == table {
+                if left == 0 {
+                    return Some(i);
+                }
+                left -= 1;
+            }
+        }
+        None
     }
 
     // The cell in a column of the row added to a table after k others.
@@ -86,8 +100,11 @@ impl<S: Stock> Movements<S> {
         if column >= self.below.width(table) {
             return Cell::Null;
         }
-        let mut own = self.added.iter().filter(|m| m.table == table);
-        own.nth(k).map_or(Cell::Null, |m| m.row[column])
+        let added = self.added.as_slice();
+        match self.nth(table, k) {
+            None => Cell::Null,
+            Some(i) => added[i].row[column],
+        }
     }
 }
 

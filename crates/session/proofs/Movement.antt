@@ -12,6 +12,7 @@ use Rattle.movements.specs.Moves.{remaining, added_rows, added_count, moved, Nth
 use Rattle.movements.specs.Moving.{length_moved, rows_moved, rows_moved_past, length_added_rows}
 use Rattle.movements.specs.Shown.{items_of, Put, Taken}
 use Rattle.movements.specs.Shown.Taken.{below, own}
+use Rattle.movements.specs.declared.bounded.Bounded.{Bounded}
 use Rattle.movements.specs.declared.moved.Added.{Added}
 use Rattle.movements.specs.declared.moved.Hidden.{Hidden}
 use Rattle.session.specs.Model.{Entry, added, ModelTable, shown_rows, shown_tables, open_table, take_entry, added_at, is_added, is_hidden, count_by, added_in, hidden_in, entries_at, no_entries, with_added, with_taken, cleared}
@@ -19,6 +20,9 @@ use Rattle.session.specs.Requests.{add_refusal, withdraw_refusal}
 use Rattle.session.specs.Tracks.{TableTracks, PartsTrack}
 use Rattle.session.proofs.Entries.{count_append, added_olds, added_added, hidden_added, total_rewritten, hidden_take_entry, take_entry_front, take_entry_own, added_at_front, added_at_own, olds_take_entry}
 use Rattle.session.proofs.Tables.{each_open, each_shows, each_restored, each_length, each_at, each_rewritten, add_other, add_here, hide_other, hide_here, strike_here, strike_other, added_opened, hidden_opened}
+
+pub count_of : {X : Type 0} {n : ℕ} (b : Bounded X n) → length (items_of b) ≡ b.count
+count_of b = let s = b.small in let l = b.long in length-take-le b.count b.items (omega arith)
 
 -- no table is cut off, by added rows ms and withdrawals hs over the tables xs
 abbrev pub Whole : List Table → List Added → List Hidden → Type 0

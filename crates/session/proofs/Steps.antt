@@ -5,7 +5,6 @@ use Rattle.cells.specs.Cells.{Row}
 use Rattle.stock.specs.Tables.{Table, Lawful, widths, width_of, rows_of}
 use Rattle.stock.specs.declared.refusal.Refusal.{Refusal}
 use Rattle.stock.specs.declared.refusal.Refusal.TheVariants.{NotShown, NoRoom, LongPlan}
-use Rattle.arrayvec.specs.ArrayVec.{array_vec_len}
 use Rattle.movements.specs.Moves.{moved_from, add_cause, withdraw_cause}
 use Rattle.movements.specs.Moving.{moved_lawful}
 use Rattle.movements.specs.Shown.{items_of, shown, rows_remaining, Uncut, Put, Taken}
@@ -35,7 +34,7 @@ use Rattle.movements.specs.declared.moved.Hidden.{Hidden}
 use Rattle.session.specs.Checks.{lay_refusal}
 use Rattle.session.specs.Plans.{standing_lines, Fits, PlanFits, PlanLaw}
 use Rattle.session.proofs.Verdicts.{accepted_none, refused_some}
-use Rattle.session.proofs.Movement.{Whole, parts_open, parts_show, parts_cleared, parts_add, parts_taken, add_refusal_is, withdraw_refusal_is}
+use Rattle.session.proofs.Movement.{Whole, count_of, parts_open, parts_show, parts_cleared, parts_add, parts_taken, add_refusal_is, withdraw_refusal_is}
 
 -- any call: the model refuses it or makes it
 module _ {X : Type 0} (tables : X → List Table) (s n : Session X) (m : Model) (r : Request) where
@@ -53,11 +52,13 @@ module _ {X : Type 0} (tables : X → List Table) (s n : Session X) (m : Model) 
 
 -- a layer without movements
 module _ {X : Type 0} (tables : X → List Table) (n : Movements X) where
-  pub tracks_open : items_of n.added ≡ [] → items_of n.hidden ≡ [] → Uncut tables n → Tracks tables n (map open_table (tables n.below))
+  pub tracks_open : n.added.count ≡ 0 → n.hidden.count ≡ 0 → Uncut tables n → Tracks tables n (map open_table (tables n.below))
   tracks_open x y w =
       let xs = tables n.below in
-      subst (λ a. Whole xs a (items_of n.hidden) → PartsTrack xs a (items_of n.hidden) (map open_table xs)) (sym x)
-      (subst (λ h. Whole xs [] h → PartsTrack xs [] h (map open_table xs)) (sym y) (parts_open xs)) w
+      let ea : items_of n.added ≡ [] = ap (λ k. take k n.added.items) x in
+      let eh : items_of n.hidden ≡ [] = ap (λ k. take k n.hidden.items) y in
+      subst (λ a. Whole xs a (items_of n.hidden) → PartsTrack xs a (items_of n.hidden) (map open_table xs)) (sym ea)
+      (subst (λ h. Whole xs [] h → PartsTrack xs [] h (map open_table xs)) (sym eh) (parts_open xs)) w
 
 module _ {X : Type 0} (tables : X → List Table) (m : Movements X) (ts : List ModelTable) (tr : Tracks tables m ts) where
   pub tracks_show : shown_tables ts ≡ shown tables m
@@ -66,26 +67,27 @@ module _ {X : Type 0} (tables : X → List Table) (m : Movements X) (ts : List M
   pub tracks_lawful : Lawful (tables m.below) → Lawful (shown_tables ts)
   tracks_lawful g = subst Lawful (sym tracks_show) (moved_lawful (items_of m.added) (items_of m.hidden) (tables m.below) g)
 
-  pub add_refused_is : (t : ℕ) (row : Row) → add_refusal ts t row ≡ add_cause (shown tables m) (array_vec_len m.added) t row
+  pub add_refused_is : (t : ℕ) (row : Row) → add_refusal ts t row ≡ add_cause (shown tables m) m.added.count t row
   add_refused_is t row =
-      add_refusal_is (tables m.below) (items_of m.added) (items_of m.hidden) ts tr t row
+      add_refusal_is (tables m.below) (items_of m.added) (items_of m.hidden) ts tr t row ∙ ap (λ k. add_cause (shown tables m) k t row) (count_of m.added)
 
-  pub withdraw_refused_is : (t p : ℕ) → withdraw_refusal ts t p ≡ withdraw_cause (shown tables m) (rows_remaining tables m t) (array_vec_len m.hidden) t p
+  pub withdraw_refused_is : (t p : ℕ) → withdraw_refusal ts t p ≡ withdraw_cause (shown tables m) (rows_remaining tables m t) m.hidden.count t p
   withdraw_refused_is t p =
-      withdraw_refusal_is (tables m.below) (items_of m.added) (items_of m.hidden) ts tr t p
+      withdraw_refusal_is (tables m.below) (items_of m.added) (items_of m.hidden) ts tr t p ∙ ap (λ k. withdraw_cause (shown tables m) (rows_remaining tables m t) k t p) (count_of m.hidden)
 
   module _ (n : Movements X) (same : n.below ≡ m.below) where
-    pub tracks_clear : items_of n.added ≡ [] → items_of n.hidden ≡ [] → Uncut tables n → Tracks tables n (cleared ts)
+    pub tracks_clear : n.added.count ≡ 0 → n.hidden.count ≡ 0 → Uncut tables n → Tracks tables n (cleared ts)
     tracks_clear x y w =
         subst (Tracks tables n) (ap (λ z. map open_table (tables z)) same ∙ sym (parts_cleared (tables m.below) (items_of m.added) (items_of m.hidden) ts tr)) (tracks_open tables n x y w)
 
-    pub tracks_add : (t : ℕ) (row : Row) → add_cause (shown tables m) (array_vec_len m.added) t row ≡ None
+    pub tracks_add : (t : ℕ) (row : Row) → add_cause (shown tables m) m.added.count t row ≡ None
         → Put t (width_of (tables m.below) t) row (items_of m.added) (items_of n.added) → n.hidden ≡ m.hidden → Uncut tables n
         → Tracks tables n (with_added ts t row)
     tracks_add t row none put still w =
+        let none' = ap (λ k. add_cause (shown tables m) k t row) (count_of m.added) ∙ none in
         subst (λ z. Whole (tables z) (items_of n.added) (items_of n.hidden) → PartsTrack (tables z) (items_of n.added) (items_of n.hidden) (with_added ts t row)) (sym same)
         (subst (λ z. Whole (tables m.below) (items_of n.added) (items_of z) → PartsTrack (tables m.below) (items_of n.added) (items_of z) (with_added ts t row)) (sym still)
-        (parts_add (tables m.below) (items_of m.added) (items_of m.hidden) ts tr t row (items_of n.added) none put)) w
+        (parts_add (tables m.below) (items_of m.added) (items_of m.hidden) ts tr t row (items_of n.added) none' put)) w
 
     pub tracks_withdraw : (t p : ℕ) → p < rows_of (shown tables m) t
         → Taken t p (rows_remaining tables m t) (items_of m.added) (items_of m.hidden) (items_of n.added) (items_of n.hidden) → Uncut tables n
@@ -133,14 +135,14 @@ module _ {X : Type 0} (tables : X → List Table) (s : Session X) (n : Movements
   steps_withdraw t p (Ok k) h taken w m ag =
       let tr = ag.rows in
       let c = h.cause in
-      let l = row_shown (shown tables s.layer) (rows_remaining tables s.layer t) (array_vec_len s.layer.hidden) t p c.0 in
+      let l = row_shown (shown tables s.layer) (rows_remaining tables s.layer t) s.layer.hidden.count t p c.0 in
       let new = tracks_withdraw tables s.layer m.tables tr n c.2 t p l taken (w tr.uncut) in
       made tables s (with_layer s n) m (withdraw t p) (Count k) (withdraw_refused_is tables s.layer m.tables tr t p ∙ c.0) (moved_on (with_taken m.tables t p) m ag c.2 new)
       (ap Count ((h.shows tr.uncut).1 ∙ ap (λ x. rows_of x t) (sym (tracks_show tables n (with_taken m.tables t p) new))))
   steps_withdraw t p (Err e) h taken w m ag =
       refused tables s (with_layer s n) m (withdraw t p) e (withdraw_refused_is tables s.layer m.tables ag.rows t p ∙ h.cause.0) (ap (with_layer s) h.cause.1) ag
 
-  pub steps_clear : n.below ≡ s.layer.below → items_of n.added ≡ [] → items_of n.hidden ≡ [] → Uncut tables n → Steps tables s (with_layer s n) clear (Count 0)
+  pub steps_clear : n.below ≡ s.layer.below → n.added.count ≡ 0 → n.hidden.count ≡ 0 → Uncut tables n → Steps tables s (with_layer s n) clear (Count 0)
   steps_clear same x y w m ag =
       made tables s (with_layer s n) m clear (Count 0) refl (moved_on (cleared m.tables) m ag same (tracks_clear tables s.layer m.tables ag.rows n same x y w)) refl
 

@@ -5,7 +5,6 @@ use Rattle.cells.specs.declared.cell.Cell.{Cell}
 use Rattle.stock.specs.Tables.{Table, widths, rows_of}
 use Rattle.stock.specs.declared.refusal.Refusal.{Refusal}
 use Rattle.stock.specs.declared.refusal.Refusal.TheVariants.{NothingStands, LongPlan}
-use Rattle.arrayvec.specs.ArrayVec.{array_vec_len}
 use Rattle.movements.specs.Moves.{add_cause, withdraw_cause, with_row, without_row}
 use Rattle.movements.specs.Shown.{shown, rows_remaining, Uncut}
 use Rattle.movements.specs.declared.movements.Movements.{Movements}
@@ -30,19 +29,19 @@ use Rattle.session.specs.declared.session.Session.{Session}
 -- an added row is shown last in its table, or there is a cause and nothing changes
 abbrev pub Adds : {X : Type 0} → (X → List Table) → Movements X → Movements X → ℕ → Row → Result ℕ Refusal → Type 0
 Adds tables m n t row r = MatchResult r
-    (λ k. (add_cause (shown tables m) (array_vec_len m.added) t row ≡ None)
+    (λ k. (add_cause (shown tables m) m.added.count t row ≡ None)
     × (shown tables n ≡ with_row (shown tables m) t row)
     × (k ≡ rows_of (shown tables n) t)
     × (n.below ≡ m.below))
-    (λ e. (add_cause (shown tables m) (array_vec_len m.added) t row ≡ Some e) × (n ≡ m))
+    (λ e. (add_cause (shown tables m) m.added.count t row ≡ Some e) × (n ≡ m))
 
 -- a withdrawn row is shown no more, or there is a cause and nothing changes. In a session no table is cut off
 pub record Withdraws {X : Type 0} (tables : X → List Table) (m n : Movements X) (t p : ℕ) (r : Result ℕ Refusal) : Type 0 where
   pub cause : MatchResult r
-      (λ k. (withdraw_cause (shown tables m) (rows_remaining tables m t) (array_vec_len m.hidden) t p ≡ None)
+      (λ k. (withdraw_cause (shown tables m) (rows_remaining tables m t) m.hidden.count t p ≡ None)
       × (k + 1 ≡ rows_of (shown tables m) t)
       × (n.below ≡ m.below))
-      (λ e. (withdraw_cause (shown tables m) (rows_remaining tables m t) (array_vec_len m.hidden) t p ≡ Some e) × (n ≡ m))
+      (λ e. (withdraw_cause (shown tables m) (rows_remaining tables m t) m.hidden.count t p ≡ Some e) × (n ≡ m))
   pub shows : Uncut tables m → MatchResult r
       (λ k. (shown tables n ≡ without_row (shown tables m) t p) × (k ≡ rows_of (shown tables n) t))
       (λ _. Unit {0})

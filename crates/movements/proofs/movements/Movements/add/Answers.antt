@@ -1,5 +1,4 @@
 use Rattle.std.proofs.Common.{◌≡◌, ◌+◌, ◌<◌, ◌≤◌, [], ◌∷◌, ◌++◌, length, take, sym, refl, ap, ◌∙◌, subst, arith, length-append}
-use Rattle.arrayvec.specs.ArrayVec.{array_vec_len}
 use Rattle.stock.specs.Tables.{Table, width_of, rows_of, rows_at}
 use Rattle.stock.specs.Tabled.{small_width}
 use Rattle.movements.specs.Moves.{moved, added_count}
@@ -38,9 +37,9 @@ returns g c =
     let after = c.push.ensures.items in
     let shows = ap (λ x. moved x hs base) after ∙ added_shows ms _ hs t base row refl in' front (omega arith) in
     let rows = ap (λ x. rows_of x t) shows ∙ ap length (rows_changed (λ rs. rs ++ row ∷ []) ts t (omega arith)) ∙ length-append (rows_at ts t) (row ∷ []) in
-    let room = room_left (array_vec_len s.added) c.is_full.ensures.fits (sym c.is_full.ensures.value ∙ c.if-is_full.false) in
+    let room = room_left s.added.count (omega arith) (sym c.is_full.ensures ∙ c.if-is_full.false) in
     record {
-      shows = (add_none ts (array_vec_len s.added) t row (omega arith) (rw c.width.ensures at (sym c.in_default.ensures)) (omega arith) (omega arith), shows, omega arith, refl);
+      shows = (add_none ts s.added.count t row (omega arith) (rw c.width.ensures at (sym c.in_default.ensures)) (omega arith) (omega arith), shows, omega arith, refl);
       parts = (record { new = _; table = refl; is = front; after = after }, refl);
       uncut = λ u k. subst (λ x. rows_remaining g.S.Stock.tables s k + added_count k x ≤ 65535) (sym after) (add_room ms _ (rows_remaining g.S.Stock.tables s) u (omega arith) k);
     }

@@ -1,6 +1,9 @@
 use Rattle.std.proofs.Common.{rules}
-use Rattle.movements.proofs.Empty.{shows_below}
+use Rattle.movements.proofs.Empty.{no_items, shows_below, uncut_below}
 use Rattle.movements.proofs.movements.Movements.over.Goals as goal
 
 pub returns-clause-shows : goal.returns-clause-shows
-returns-clause-shows g c = shows_below (g.S.Stock.tables c.args.below) _ _ (search rules) (search rules) (g.S.Stock.lawful c.args.below)
+returns-clause-shows g c = let b = c.args.below in shows_below (g.S.Stock.tables b) _ _ (no_items _ _ (search rules)) (no_items _ _ (search rules)) (g.S.Stock.lawful b)
+
+pub returns-clause-uncut : goal.returns-clause-uncut
+returns-clause-uncut g c = let b = c.args.below in uncut_below (g.S.Stock.tables b) _ _ (no_items _ c.none.result.items c.none.ensures) (no_items _ c.none-2.result.items c.none-2.ensures) (g.S.Stock.lawful b)

@@ -4,7 +4,6 @@ use Rattle.std.specs.List.{remove}
 use Rattle.std.proofs.lemmas.Option.{MatchOption-at_some}
 use Rattle.std.proofs.lemmas.List.Edits.{length-remove}
 use Rattle.std.proofs.lemmas.Bool.{cases_lt}
-use Rattle.arrayvec.specs.ArrayVec.{array_vec_len}
 use Rattle.stock.specs.Tables.{rows_at, rows_of}
 use Rattle.movements.specs.Moves.{moved, remaining, added_count}
 use Rattle.movements.specs.Moving.{rows_moved, rows_moved_past, length_moved}
@@ -31,9 +30,9 @@ returns-then-place-kept g c =
     let h : Hidden = record { table = t; place = p } in
     let after : items_of c.push.new.self ≡ hs ++ h ∷ [] = cc in
     let few = rows_moved t ms hs base in' in
-    let room = room_left (array_vec_len s.hidden) c.is_full.ensures.fits (sym c.is_full.ensures.value ∙ c.if-is_full.false) in
+    let room = room_left s.hidden.count (omega arith) (sym c.is_full.ensures ∙ c.if-is_full.false) in
     record {
-      cause = (withdraw_below ts k (array_vec_len s.hidden) t p (omega arith) (omega arith) (omega arith), omega arith, refl);
+      cause = (withdraw_below ts k s.hidden.count t p (omega arith) (omega arith) (omega arith), omega arith, refl);
       shows = λ u.
           let e = ap (λ x. moved ms x base) after ∙ hidden_shows ms hs h t p base refl refl in' (omega arith) (u t) in
           let r = ap (λ x. rows_of x t) e ∙ ap length (rows_changed (λ rs. remove rs p) ts t (omega arith)) in
@@ -53,8 +52,8 @@ unwrap-i-requires g c =
     let base = g.S.Stock.tables s.below in
     is_there c.nth.result _ _ c.nth.ensures
     (λ n. ⊎_elim
-    (λ l. let e = rows_moved c.args.table s.added.items s.hidden.items base l in omega arith)
-    (λ l. let e = rows_moved_past c.args.table s.added.items s.hidden.items base l in omega arith)
+    (λ l. let e = rows_moved c.args.table (items_of s.added) (items_of s.hidden) base l in omega arith)
+    (λ l. let e = rows_moved_past c.args.table (items_of s.added) (items_of s.hidden) base l in omega arith)
     (cases_lt c.args.table (length base)))
 
 pub returns : goal.returns
@@ -74,7 +73,7 @@ returns g c =
     let nth' = rw c.kept-kept.ensures at nth in
     let few = rows_moved t ms hs base in' in
     record {
-      cause = (withdraw_own ts k (array_vec_len s.hidden) t p (omega arith) (omega arith), omega arith, refl);
+      cause = (withdraw_own ts k s.hidden.count t p (omega arith) (omega arith), omega arith, refl);
       shows = λ u.
           let e = ap (λ x. moved x hs base) after ∙ struck_shows ms hs t (p - k) c.unwrap-i.result nth' p base in' (omega arith) refl (omega arith) (u t) in
           let r = ap (λ x. rows_of x t) e ∙ ap length (rows_changed (λ rs. remove rs p) ts t (omega arith)) in
