@@ -83,6 +83,7 @@ impl Condition<'_> {
     }
 
     // The truth of the condition on a line. Of a line with rows, which no condition reads, it is that of column 0 being NULL.
+    #[cycle(truths)]
     fn truth_on(&self, line: usize, row: &LongRow) -> Truth
         requires { line < length self.now.lines.now }
         ensures { result ≡ truth_at (condition_at self.now.lines.now line) row.now }
@@ -92,9 +93,27 @@ impl Condition<'_> {
             Line::IsNull { column } => Truth::from(row.cell(column).is_null()),
             Line::Not { condition } => self.truth_on(condition, row).not(),
             Line::Unknown { condition } => self.truth_on(condition, row).unknown(),
-            Line::And { left, right } => self.truth_on(left, row).and(self.truth_on(right, row)),
-            Line::Or { left, right } => self.truth_on(left, row).or(self.truth_on(right, row)),
+            Line::And { left, right } => {
+                let (first, second) = self.both(left, right, row);
+                first.and(second)
+            }
+            Line::Or { left, right } => {
+                let (first, second) = self.both(left, right, row);
+                first.or(second)
+            }
             _ => Truth::from(row.cell(0).is_null()),
         }
+    }
+
+    // The truths of two. Never inlined: what has to last from the first to the second would cost each other condition too.
+    #[inline(never)]
+    #[cycle(truths)]
+    fn both(&self, left: usize, right: usize, row: &LongRow) -> (Truth, Truth)
+        requires left { left < length self.now.lines.now }
+        requires right { right < length self.now.lines.now }
+        ensures first { result.0 ≡ truth_at (condition_at self.now.lines.now left) row.now }
+        ensures second { result.1 ≡ truth_at (condition_at self.now.lines.now right) row.now }
+    {
+        (self.truth_on(left, row), self.truth_on(right, row))
     }
 }

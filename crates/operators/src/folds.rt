@@ -181,6 +181,7 @@ impl Fold<'_> {
     }
 
     // For each different start of a row, by first appearance, this and the aggregate over its rows.
+    #[inline(never)]
     pub fn group(&self, cells: &mut [Cell], rows: Region, keys: usize, out: usize) -> Option<usize>
         requires rows { Stands rows out }
         requires keys { keys ≤ rows.width }

@@ -49,5 +49,5 @@ pub(crate) fn same_cells(cells: &[Cell], a: usize, b: usize, n: usize) -> bool
     requires second { b + n ≤ length cells.now }
     ensures { result ≡ same_row (row_at cells.now a n) (row_at cells.now b n) }
 {
-    cells[a..a + n] == cells[b..b + n]
+    (0..n).all(|k| cells[a + k].same(cells[b + k]))
 }

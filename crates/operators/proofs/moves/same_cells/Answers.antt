@@ -1,27 +1,14 @@
-use Rattle.std.proofs.Common.{◌≡◌, ◌+◌, ◌-◌, ◌∙◌, List, [], ◌∷◌, ◌&&◌, ap₂, refl, arith, rules}
-use Rattle.std.specs.Cmp.Lexicographic.{pointwise}
-use Rattle.cells.specs.Cells.{same_cell, same_row}
-use Rattle.cells.specs.contracts.cell.CellPartialEq.TheImpl.{eq-value}
-use Rattle.cells.specs.declared.cell.Cell.{Cell}
-use Rattle.cells.specs.declared.cell.Cell.TheVariants.{Null, Number}
-use Rattle.operators.specs.Places.{row_at}
+use Rattle.std.proofs.Common.{◌+◌, ◌∙◌, get_or, refl, arith, rules}
+use borrow.Author.Tests.{tests}
+use Rattle.std.proofs.lemmas.Iterator.{YieldsList-from_range}
+use Rattle.std.proofs.lemmas.Iterator.Search.{all_from_yields_List}
+use Rattle.cells.specs.Cells.{same_cell}
+use Rattle.cells.specs.declared.cell.Cell.TheVariants.{Null}
+use Rattle.operators.proofs.Sames.{all_same}
 use Rattle.operators.proofs.moves.same_cells.Goals as goal
-
--- what == says of two cells
-cells_same : (a b : Cell) → eq-value.it a b ≡ same_cell a b
-cells_same Null Null = refl
-cells_same Null (Number b) = refl
-cells_same (Number a) Null = refl
-cells_same (Number a) (Number b) = search rules
-
-same_rows : (xs ys : List Cell) → pointwise eq-value.it xs ys ≡ same_row xs ys
-same_rows [] [] = refl
-same_rows [] (y ∷ ys) = refl
-same_rows (x ∷ xs) [] = refl
-same_rows (x ∷ xs) (y ∷ ys) = ap₂ ◌&&◌ (cells_same x y) (same_rows xs ys)
 
 pub returns : goal.returns
 returns c =
-    let a : (c.args.a + c.args.n) - c.args.a ≡ c.args.n = omega arith in
-    let b : (c.args.b + c.args.n) - c.args.b ≡ c.args.n = omega arith in
-    c.eq.ensures ∙ rw (a, b) (same_rows (row_at c.args.cells.now c.args.a c.args.n) (row_at c.args.cells.now c.args.b c.args.n))
+    all_from_yields_List (λ k. same_cell (get_or c.args.cells.now (c.args.a + k) Null) (get_or c.args.cells.now (c.args.b + k) Null)) _ _ _ c.all.ensures.ran
+    (YieldsList-from_range 0 c.args.n c.args.n refl (omega arith)) (λ x b q k. search (rules, tests))
+    ∙ all_same c.args.cells.now c.args.a c.args.b c.args.n c.requires.first c.requires.second
