@@ -9,16 +9,10 @@ use stock::refusal::Refusal;
 use stock::stock::Stock;
 use unnest::plan::FlatPlan;
 
-// The flat plan of a query, and how many rows it gives.
-fn planned<S: Stock>(
-    stock: &S,
-    lines: &[Line],
-    cells: &mut [Cell],
-) -> Result<(FlatPlan, usize), Refusal> {
+// The flat plan of a query. It takes 20 KB of the stack, so it is given alone and borrowed: a pair would take one copy more.
+fn planned<S: Stock>(stock: &S, lines: &[Line]) -> Result<FlatPlan, Refusal> {
     let query = Query::check(lines, stock)?;
-    let plan = FlatPlan::unnest(&query)?;
-    let (rows, _) = run(stock, &plan, cells)?;
-    Ok((plan, rows))
+    FlatPlan::unnest(&query)
 }
 
 // A plan over a stock, and all the cells that may be lent to its runs.
@@ -78,6 +72,10 @@ impl<'a, S: Stock> Trial<'a, S> {
     }
 }
 
+fn refused(rt: &HostRuntime, refusal: Refusal) -> io::Result<()> {
+    println!(rt; "refused with {refusal}")
+}
+
 // Prints how many rows the query gives, how many cells that needs and, with a repeat count, the time per call.
 pub fn measure<S: Stock>(
     rt: &HostRuntime,
@@ -86,12 +84,11 @@ pub fn measure<S: Stock>(
     cells: &mut [Cell],
     repeats: Option<u32>,
 ) -> io::Result<()> {
-    match planned(stock, lines, cells) {
-        Ok((plan, rows)) => {
-            let plan = &plan;
-            let mut trial = Trial { stock, plan, cells };
-            trial.report(rt, rows, repeats)
-        }
-        Err(refusal) => println!(rt; "refused with {refusal}"),
+    match &planned(stock, lines) {
+        Ok(plan) => match run(stock, plan, cells) {
+            Ok((rows, _)) => Trial { stock, plan, cells }.report(rt, rows, repeats),
+            Err(refusal) => refused(rt, refusal),
+        },
+        Err(refusal) => refused(rt, *refusal),
     }
 }

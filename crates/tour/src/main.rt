@@ -15,6 +15,14 @@ use shelf::shelf::Shelf;
 use std::io;
 use stocks::move_rows;
 
+// A layer over the shelf. Apart from `main`, so that the stack no longer holds it once a session is opened.
+#[inline(never)]
+fn layered(rt: &HostRuntime) -> io::Result<()> {
+    let mut layer = Movements::over(Shelf::of(&KITS_AND_SHIPMENTS, &TABLES));
+    move_rows(rt, &mut layer)?;
+    ask_for_kits(rt, &layer)
+}
+
 fn main(rt: HostRuntime) -> io::Result<()> {
     println!(rt;
         "A shelf is cut from lent cells: four kits (kit, shipments wanted), three shipments (kit, part)."
@@ -26,8 +34,6 @@ fn main(rt: HostRuntime) -> io::Result<()> {
         "tables",
         Shelf::check(&KITS_AND_SHIPMENTS[..13], &TABLES),
     )?;
-    let mut layer = Movements::over(Shelf::of(&KITS_AND_SHIPMENTS, &TABLES));
-    move_rows(&rt, &mut layer)?;
-    ask_for_kits(&rt, &layer)?;
+    layered(&rt)?;
     live(&rt, Shelf::of(&KITS_AND_SHIPMENTS, &TABLES))
 }

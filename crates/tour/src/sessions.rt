@@ -16,9 +16,15 @@ fn ask_and_run<S: Stock>(rt: &HostRuntime, session: &Session<S>) -> io::Result<(
     tell_rows(rt, answer, &cells)
 }
 
+// Apart, so that the stack no longer holds what a session is made of when its calls are made.
+#[inline(never)]
+fn opened<S: Stock>(stock: S) -> Session<S> {
+    Session::open(stock)
+}
+
 pub fn live<S: Stock + Drop>(rt: &HostRuntime, stock: S) -> io::Result<()> {
     println!(rt; "A session over the shelf lays the query and unnests it.")?;
-    let mut session = Session::open(stock);
+    let mut session = opened(stock);
     tell(rt, "flat lines, before any query", session.unnest())?;
     if let Ok((lines, width)) = session.lay(&REORDER) {
         println!(rt; "  laid: {lines} lines, {width} columns")?;
